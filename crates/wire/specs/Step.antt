@@ -1,0 +1,35 @@
+-- One step of the walk in a shape's numbers, as the code takes it; proofs/Steps.antt ties it to the walk's own words.
+use mathlib.Core.Path.{_≡_}
+use mathlib.Core.Bool.{cond}
+use Prim.Native.Nat.{ℕ, _+_, _-_, _≤_, _<_}
+use mathlib.Core.List.{List}
+use lib.Dec.{ltb, eqb}
+use lib.ListN.{length, getD}
+use Rattle.refusal.specs.Numbers.{cutFrame, noiseNotLast, notBehind2400, mixedRates}
+use Rattle.wire.specs.Frame.{Kind, tsvcis, countOf}
+use Rattle.wire.specs.Walk.{clash}
+use Rattle.wire.specs.declared.Shape.{Shape}
+use Rattle.wire.specs.declared.Found.{Found}
+use Rattle.wire.specs.declared.Found.the-variants.{Bad, Got}
+
+-- a frame of these numbers, where `later` frames behind it are read, of the rate s
+unfoldable pub besideShape : ℕ → ℕ → Shape → Found
+besideShape later s x =
+    cond (eqb (x .rate) 0) (cond (ltb 0 later) (Bad noiseNotLast) (Got x)) (cond (clash (x .rate) s) (Bad mixedRates) (Got x))
+
+-- the same, if u unread octets hold it whole and augmentation stands behind a 2400 bps frame
+unfoldable pub wholeShape : List ℕ → ℕ → ℕ → ℕ → Shape → Found
+wholeShape p u later s x =
+    cond (ltb u (x .wire)) (Bad cutFrame)
+    (cond (eqb (x .tc) 0) (besideShape later s x)
+    (cond (ltb 63 (getD p (u - x .wire + 6) 0)) (Bad notBehind2400) (besideShape later s x)))
+
+-- augmentation stands behind seven octets
+abbrev pub HasBase : Shape → Type 0
+HasBase x = 1 ≤ x .tc → 7 ≤ x .wire
+
+-- a TSVCIS frame of TC t has n octets of count
+pub record CountIs (t n : ℕ) : Type 0 where
+  pub octets : length (countOf tsvcis t) ≡ n
+  pub small : t < 256
+  pub few : n ≤ 2
