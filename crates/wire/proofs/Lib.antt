@@ -6,3 +6,5 @@ pub mod Complete
 pub mod Ended
 pub mod Sound
 pub mod Shapes
+pub mod Prefix
+pub mod Ranges

@@ -1,15 +1,15 @@
 -- The walk's definitions, one law for each case.
 use mathlib.Core.Path.{_≡_, refl, sym, ap, _∙_}
 use mathlib.Core.Logic.{_⊎_, inl, inr}
-use mathlib.Core.Bool.{Bool, true, false, not}
+use mathlib.Core.Bool.{Bool, true, false, cond, not}
 use mathlib.Core.List.{List}
 use Prim.Native.Nat.{ℕ, zero, suc, _+_, _-_, _≤_, _<_}
 use native.Mathlib.Omega.{arith}
-use lib.Dec.{eqb, eqb·suc-suc}
+use lib.Dec.{ltb, eqb}
 use lib.ListN.{getD}
 use borrow.Author.Tests.{lt-ltb, le-ltb, ne-eqb, eq-eqb}
-use Rattle.wire.specs.Frame.{Kind, bps2400, bps1200, bps600, noise, tsvcis}
-use Rattle.wire.specs.Walk.{Ending, bad, got, named, counted, ending, clash}
+use Rattle.wire.specs.Frame.{Kind, bps2400, bps1200, bps600, noise, tsvcis, size, rate, wireLength}
+use Rattle.wire.specs.Walk.{Ending, bad, got, named, counted, ending, foreign, whole, lastFrame, late, clash, beside}
 use Rattle.wire.proofs.Tables.{not-short, is-short}
 
 -- ---- what the last octets name
@@ -94,3 +94,23 @@ unfolding clash
 clash-two zero s h j d = absurd (h refl)
 clash-two (suc r) zero h j d = absurd (j refl)
 clash-two (suc r) (suc s) h j d = simp (ne-eqb r s (λ e. d (ap suc e)))
+
+-- ---- what a step that found a frame looked at
+
+pick : (a b : Bool) (n m : ℕ) (k j : Kind) (t s : ℕ) → cond a (bad n) (cond b (bad m) (got j s)) ≡ got k t → got j s ≡ got k t
+pick true b n m k j t s e = absurd (let z : _≡_ {A = ℕ} 0 1 = cc in omega arith)
+pick false true n m k j t s e = absurd (let z : _≡_ {A = ℕ} 0 1 = cc in omega arith)
+pick false false n m k j t s e = e
+
+pub beside-got : (later r : ℕ) (e : Ending) (k : Kind) (t : ℕ) → beside later r e ≡ got k t → e ≡ got k t
+unfolding beside
+beside-got later r (bad n) k t q = absurd (let z : _≡_ {A = ℕ} 0 1 = cc in omega arith)
+beside-got later r (got j s) k t q = pick (late j later) (clash (rate j) r) 6 8 k j t s q
+
+pub last-got : (p : List ℕ) (u : ℕ) (k : Kind) (t : ℕ) → lastFrame p u ≡ got k t → ending p u ≡ got k t
+unfolding lastFrame whole
+last-got p u k t q = go (ending p u) q
+  where
+    go : (e : Ending) → whole p u e ≡ got k t → e ≡ got k t
+    go (bad n) d = absurd (let z : _≡_ {A = ℕ} 0 1 = cc in omega arith)
+    go (got j s) d = pick (ltb u (wireLength j s)) (foreign j (getD p (u - wireLength j s + (size j - 1)) 0)) 2 7 k j t s d

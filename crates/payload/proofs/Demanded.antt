@@ -1,0 +1,191 @@
+-- Demand 3 holds of the definition of reading; and the reading, case by case, as the code's branches ask for it.
+use mathlib.Core.Path.{_≡_, refl, sym, ap, _∙_}
+use mathlib.Core.Logic.{_⊎_, inl, inr}
+use mathlib.Core.List.{List, [], _∷_, _++_}
+use Prim.Native.Nat.{ℕ, zero, suc, _+_, _-_, _*_, _/_, _≤_, _<_}
+use native.Mathlib.Omega.{arith}
+use lib.ListN.{length, drop}
+use borrow.Author.Tests.{lt-ltb, le-ltb}
+use Rattle.refusal.specs.declared.Refusal.{Refusal}
+use Rattle.wire.specs.Frame.{Frame, Octets, Legal, octetsOf, rowsOf, bodiesOf}
+use Rattle.wire.specs.Walk.{Walk, at, refused, readOf}
+use Rattle.wire.proofs.Tables.{below-or}
+use Rattle.wire.proofs.Complete.{complete, unique}
+use Rattle.wire.proofs.Sound.{sound, Ended, read-ends}
+use Rattle.wire.proofs.Ranges.{InRange, in-range, frames-most}
+use Rattle.payload.specs.Reading.{refuse, totals, contentsOf, Outcome, kept, handedOut, settle, readInto, Report, reportOf}
+use Rattle.payload.specs.Promise.{Room, HandedBack, Unchanged, Demand, Reads}
+use Rattle.payload.specs.Filling.{Known}
+use Rattle.payload.specs.declared.Totals.{Totals}
+use Rattle.payload.specs.declared.Contents.{Contents}
+use Rattle.payload.specs.declared.Contents.the-variants as contents
+use Rattle.payload.specs.declared.Reading.{Reading}
+use Rattle.payload.specs.declared.Reading.the-variants as reading
+
+module _ (r b : List ℕ) where
+  -- ---- what settling a walk comes to
+
+  pub settle-few : (u : ℕ) (fs : List Frame) → length r / 2 < length fs → settle r b (at u fs) ≡ kept 9 (length fs) r b
+  unfolding settle
+  settle-few u fs h = simp (lt-ltb (length r / 2) (length fs) h)
+
+  pub settle-short : (u : ℕ) (fs : List Frame) → length fs ≤ length r / 2 → length b < length (bodiesOf fs) → settle r b (at u fs) ≡ kept 10 (length (bodiesOf fs)) r b
+  unfolding settle
+  settle-short u fs h l = simp (le-ltb (length r / 2) (length fs) h, lt-ltb (length b) (length (bodiesOf fs)) l)
+
+  pub settle-right : (u : ℕ) (fs : List Frame) → length fs ≤ length r / 2 → length (bodiesOf fs) ≤ length b → settle r b (at u fs) ≡ handedOut fs r b
+  unfolding settle
+  settle-right u fs h l = simp (le-ltb (length r / 2) (length fs) h, le-ltb (length b) (length (bodiesOf fs)) l)
+
+  pub settle-refused : (n place : ℕ) (later : List Frame) → settle r b (refused n place later) ≡ kept n place r b
+  unfolding settle
+  settle-refused n place later = refl
+
+module _ (p r b : List ℕ) where
+  -- a legal sequence that gives the octets, with room for it, is handed out
+  pub hands-out : (fs : List Frame) → Legal fs → octetsOf fs ≡ p → Room fs r b → readInto p r b ≡ handedOut fs r b
+  hands-out fs l e (hr, hb) =
+      let w : readOf p ≡ at 0 fs = ap readOf (sym e) ∙ complete fs l in
+      ap (settle r b) w ∙ settle-right r b 0 fs (omega arith) hb
+
+  -- a reading hands out a legal sequence, or refuses, and then no such sequence has room
+  data View (x : Outcome) : Type 0 where
+    out : (fs : List Frame) → Legal fs → octetsOf fs ≡ p → Room fs r b → x ≡ handedOut fs r b → View x
+    no : (n place : ℕ) → 1 ≤ n → x ≡ kept n place r b → View x
+
+  view : Octets p → View (readInto p r b)
+  view o = go (readOf p) refl (read-ends p)
+    where
+      go : (w : Walk) → readOf p ≡ w → Ended w → View (readInto p r b)
+      go (refused n place later) e h = no n place (in-range p n place later e .some) (ap (settle r b) e ∙ settle-refused r b n place later)
+      go (at (suc u) fs) e h = absurd h
+      go (at zero fs) e h = room (sound p fs o e) (below-or (length r / 2) (length fs)) (below-or (length b) (length (bodiesOf fs)))
+        where
+          room : Legal fs × (octetsOf fs ≡ p) → (length r / 2 < length fs) ⊎ (length fs ≤ length r / 2)
+              → (length b < length (bodiesOf fs)) ⊎ (length (bodiesOf fs) ≤ length b) → View (readInto p r b)
+          room s (inl x) y = no 9 (length fs) (omega arith) (ap (settle r b) e ∙ settle-few r b 0 fs x)
+          room s (inr x) (inl y) = no 10 (length (bodiesOf fs)) (omega arith) (ap (settle r b) e ∙ settle-short r b 0 fs x y)
+          room s (inr x) (inr y) = let h : Room fs r b = (omega arith, y) in out fs (s .0) (s .1) h (hands-out fs (s .0) (s .1) h)
+
+  abbrev Holds : Outcome → Type 0
+  Holds x = Demand p r b (reportOf (x .answer)) (x .rows) (x .bodies)
+
+  only : (fs gs : List Frame) → Legal fs → Legal gs → octetsOf fs ≡ p → octetsOf gs ≡ p → fs ≡ gs
+  only fs gs hf hg ef eg = unique fs gs hf hg (ef ∙ sym eg)
+
+  none-empty : (fs : List Frame) → octetsOf fs ≡ p → length fs ≡ 0 → p ≡ []
+  none-empty [] e z = sym e
+  none-empty (f ∷ fs) e z = absurd (omega arith)
+
+  back : (fs gs : List Frame) → gs ≡ fs → HandedBack gs r b (reportOf (handedOut fs r b .answer)) (handedOut fs r b .rows) (handedOut fs r b .bodies)
+  back fs gs e = rw e (record { number = refl; place = refl; rows = refl; octets = refl; list = refl; buffer = refl })
+
+  empty-room : p ≡ [] → (Legal [] × (octetsOf [] ≡ p)) × Room [] r b
+  empty-room e = (((0, tt, omega arith), sym e), (omega arith, omega arith))
+
+  accepted-demand : (fs : List Frame) → Legal fs → octetsOf fs ≡ p → Room fs r b → Holds (handedOut fs r b)
+  accepted-demand fs l e h = record {
+    refused = λ n. absurd (n refl);
+    accepted = λ z. (fs, l, e, h);
+    handed = λ gs lg eg hg. back fs gs (only gs fs lg l eg e);
+    unique = only;
+    unchanged = λ n. absurd (n refl);
+    most = frames-most fs l;
+    empty = λ q. (refl, ap length (only fs [] l (empty-room q .0 .0) e (empty-room q .0 .1)));
+    only-empty = λ z s. none-empty fs e s;
+  }
+
+  refused-demand : (n place : ℕ) → 1 ≤ n → ((fs : List Frame) → Legal fs → octetsOf fs ≡ p → Room fs r b → ⊥) → Holds (kept n place r b)
+  refused-demand n place h none = record {
+    refused = λ z. none;
+    accepted = λ z. absurd (omega arith);
+    handed = λ fs l e s. absurd (none fs l e s);
+    unique = only;
+    unchanged = λ z. record { rows = refl; octets = refl; list = refl; buffer = refl };
+    most = omega arith;
+    empty = λ q. let w = empty-room q in absurd (none [] (w .0 .0) (w .0 .1) (w .1));
+    only-empty = λ z. absurd (omega arith);
+  }
+
+  -- demand 3, of the definition
+  pub demand : Octets p → Holds (readInto p r b)
+  demand o = go (view o)
+    where
+      go : View (readInto p r b) → Holds (readInto p r b)
+      go (out fs l e h q) = rw q (accepted-demand fs l e h)
+      go (no n place h q) = rw q (refused-demand n place h (λ fs l e s.
+          let d : kept n place r b ≡ handedOut fs r b = sym q ∙ hands-out fs l e s in
+          let c : reading.Refused (refuse n place) ≡ reading.Read (length fs) (length (bodiesOf fs)) = ap (λ (x : Outcome). x .answer) d in
+          let z : _≡_ {A = ℕ} 0 1 = cc in omega arith))
+
+  -- ---- what `read` promises, where its answer and lists are those of an outcome
+
+  promised : Octets p → (x : Outcome) → readInto p r b ≡ x → {a : Reading} {r′ b′ : List ℕ} → a ≡ x .answer → r′ ≡ x .rows → b′ ≡ x .bodies → Reads p r b a r′ b′
+  promised o x e ea er eb =
+      rw (ea, er, eb) (record {
+        answer = ap (λ (y : Outcome). y .answer) (sym e);
+        rows = ap (λ (y : Outcome). y .rows) (sym e);
+        bodies = ap (λ (y : Outcome). y .bodies) (sym e);
+        demand = rw e at (demand o);
+      })
+
+  -- ---- the code's branches: `s` is what the survey answered
+
+  module _ (o : Octets p) {s : Contents} (is : s ≡ contentsOf (readOf p)) where
+    pub read-refused : (x : Refusal) → s ≡ contents.Refused x → Reads p r b (reading.Refused x) r b
+    read-refused x e = go (readOf p) refl (sym is ∙ e)
+      where
+        go : (w : Walk) → readOf p ≡ w → contentsOf (readOf p) ≡ contents.Refused x → Reads p r b (reading.Refused x) r b
+        go (at u fs) q d =
+            let c : contents.Whole (totals fs) ≡ contents.Refused x = ap contentsOf (sym q) ∙ d in
+            absurd (let z : _≡_ {A = ℕ} 0 1 = cc in omega arith)
+        go (refused n place later) q d =
+            let c : contents.Refused (refuse n place) ≡ contents.Refused x = ap contentsOf (sym q) ∙ d in
+            let f : refuse n place ≡ x = cc in
+            promised o (kept n place r b) (ap (settle r b) q ∙ settle-refused r b n place later) (ap reading.Refused (sym f)) refl refl
+
+    module _ (t : Totals) (e : s ≡ contents.Whole t) where
+      -- the frames that the survey went over
+      pub record Over : Type 0 where
+        pub fs : List Frame
+        pub reads : readOf p ≡ at 0 fs
+        pub frames : t .frames ≡ length fs
+        pub octets : t .octets ≡ length (bodiesOf fs)
+        pub ticks : t ≡ totals fs
+
+      pub over : Over
+      over = go (readOf p) refl (read-ends p) (sym is ∙ e)
+        where
+          go : (w : Walk) → readOf p ≡ w → Ended w → contentsOf (readOf p) ≡ contents.Whole t → Over
+          go (refused n place later) q h d =
+              let c : contents.Refused (refuse n place) ≡ contents.Whole t = ap contentsOf (sym q) ∙ d in
+              absurd (let z : _≡_ {A = ℕ} 0 1 = cc in omega arith)
+          go (at (suc u) fs) q h d = absurd h
+          go (at zero fs) q h d =
+              let c : contents.Whole (totals fs) ≡ contents.Whole t = ap contentsOf (sym q) ∙ d in
+              let f : totals fs ≡ t = cc in
+              record { fs = fs; reads = q; frames = ap (λ (y : Totals). y .frames) (sym f); octets = ap (λ (y : Totals). y .octets) (sym f); ticks = sym f }
+
+      pub read-few : length r / 2 < t .frames → Reads p r b (reading.Refused (refuse 9 (t .frames))) r b
+      read-few h =
+          let w = over in
+          promised o (kept 9 (length (w .fs)) r b) (ap (settle r b) (w .reads) ∙ settle-few r b 0 (w .fs) (omega (arith, w .frames)))
+          (ap (λ (n : ℕ). reading.Refused (refuse 9 n)) (w .frames)) refl refl
+
+      pub read-short : t .frames ≤ length r / 2 → length b < t .octets → Reads p r b (reading.Refused (refuse 10 (t .octets))) r b
+      read-short h l =
+          let w = over in
+          promised o (kept 10 (length (bodiesOf (w .fs))) r b)
+          (ap (settle r b) (w .reads) ∙ settle-short r b 0 (w .fs) (omega (arith, w .frames)) (omega (arith, w .octets)))
+          (ap (λ (n : ℕ). reading.Refused (refuse 10 n)) (w .octets)) refl refl
+
+      pub read-known : t .frames ≤ length r / 2 → t .octets ≤ length b → Known p (t .frames) (t .octets) (length r) (length b)
+      read-known h l = let w = over in record { fs = w .fs; reads = w .reads; frames = w .frames; octets = w .octets; rows = omega arith; bodies = l }
+
+      pub read-right : t .frames ≤ length r / 2 → t .octets ≤ length b → {r′ b′ : List ℕ} → r′ ≡ readInto p r b .rows → b′ ≡ readInto p r b .bodies
+          → Reads p r b (reading.Read (t .frames) (t .octets)) r′ b′
+      read-right h l er eb =
+          let w = over in
+          let q : readInto p r b ≡ handedOut (w .fs) r b = ap (settle r b) (w .reads) ∙ settle-right r b 0 (w .fs) (omega (arith, w .frames)) (omega (arith, w .octets)) in
+          promised o (readInto p r b) refl
+          (ap (λ (n : ℕ). reading.Read n (t .octets)) (w .frames) ∙ ap (reading.Read (length (w .fs))) (w .octets) ∙ ap (λ (x : Outcome). x .answer) (sym q)) er eb

@@ -1,0 +1,7 @@
+pub mod Copied
+pub mod Surveyed
+pub mod Onward
+pub mod Stored
+pub mod Filled
+pub mod Demanded
+pub mod Bench

@@ -1,0 +1,60 @@
+-- Stores that put a body and a row in place.
+use mathlib.Core.Path.{_≡_, refl, sym, ap, _∙_}
+use mathlib.Core.List.{List, [], _∷_, _++_, append-assoc}
+use Prim.Native.Nat.{ℕ, zero, suc, _+_, _-_, _*_, _≤_, _<_}
+use native.Mathlib.Nat.{zero-add, suc-add, le-of-suc-le-suc}
+use native.Mathlib.Omega.{arith}
+use lib.ListN.{length, getD, set, take, drop, length-set, length-drop, length-take, length-append}
+use lib.Seq.{paste, set-append-left, length-take-le, take-append-le, take-take, drop-at}
+use Rattle.wire.specs.declared.Shape.{Shape}
+use Rattle.payload.specs.Filling.{put, bodyAt, BodyFits}
+
+set-append-add : (xs ys : List ℕ) (i v : ℕ) → set (xs ++ ys) (length xs + i) v ≡ xs ++ set ys i v
+set-append-add [] ys i v = ap (λ (k : ℕ). set ys k v) (zero-add i)
+set-append-add (x ∷ xs) ys i v =
+    ap (λ (k : ℕ). set (x ∷ (xs ++ ys)) k v) (suc-add (length xs) i) ∙ ap (λ (r : List ℕ). x ∷ r) (set-append-add xs ys i v)
+
+-- a store inside what was pasted
+set-pasted : (d s : List ℕ) (a n j v : ℕ) → a + n ≤ length d → n ≤ length s → j < n
+    → set (paste d a s n) (a + j) v ≡ take a d ++ set (take n s) j v ++ drop (a + n) d
+set-pasted d s a n j v hd hs hj =
+    let l : length (take a d) ≡ a = length-take-le a d (omega arith) in
+    let m : length (take n s) ≡ n = length-take-le n s hs in
+    set-append-left (take a d ++ take n s) (drop (a + n) d) (a + j) v (omega (arith, length-append (take a d) (take n s)))
+    ∙ ap (λ (r : List ℕ). r ++ drop (a + n) d)
+    (ap (λ (k : ℕ). set (take a d ++ take n s) (k + j) v) (sym l) ∙ set-append-add (take a d) (take n s) j v)
+
+-- a body that was copied, with its last base octet stored anew
+pub body-put : (p d : List ℕ) (a : ℕ) (x : Shape) (o : ℕ) {e : List ℕ} → BodyFits p a x (length d) o → e ≡ paste d o (drop a p) (x .size + x .tc)
+    → set e (o + (x .size - 1)) (getD p (a + (x .size - 1)) 0 - x .code) ≡ put d o (bodyAt p a x)
+body-put p d a x o {e} h ee =
+    let m : length (take (x .size + x .tc) (drop a p)) ≡ x .size + x .tc = length-take-le (x .size + x .tc) (drop a p) (simp length-drop (omega (arith, h .inside))) in
+    let l : length (bodyAt p a x) ≡ x .size + x .tc = simp length-set m in
+    rw (ee, l)
+    (set-pasted d (drop a p) o (x .size + x .tc) (x .size - 1) (getD p (a + (x .size - 1)) 0 - x .code) (h .room) (simp length-drop (omega (arith, h .inside))) (omega (arith, h .based)))
+
+-- two stores behind what is left make it two shorter
+two-back : (k : ℕ) (xs rest : List ℕ) (a b : ℕ) → suc (suc k) ≤ length xs
+    → set (set (take (suc (suc k)) xs ++ rest) k a) (suc k) b ≡ take k xs ++ (a ∷ b ∷ rest)
+two-back k [] rest a b h = absurd (omega arith)
+two-back zero (x ∷ []) rest a b h = absurd (omega arith)
+two-back zero (x ∷ y ∷ xs) rest a b h = refl
+two-back (suc k) (x ∷ xs) rest a b h = ap (λ (r : List ℕ). x ∷ r) (two-back k xs rest a b (le-of-suc-le-suc h))
+
+pub rows-back : (r₀ rest : List ℕ) (i a t : ℕ) → 1 ≤ i → 2 * i ≤ length r₀
+    → set (set (take (2 * i) r₀ ++ rest) (2 * (i - 1)) a) (2 * (i - 1) + 1) t ≡ take (2 * (i - 1)) r₀ ++ (a ∷ t ∷ rest)
+rows-back r₀ rest i a t h l =
+    let e : 2 * i ≡ suc (suc (2 * (i - 1))) = omega arith in
+    let g : 2 * (i - 1) + 1 ≡ suc (2 * (i - 1)) = omega arith in
+    rw (e, g) (two-back (2 * (i - 1)) r₀ rest a t (omega arith))
+
+pub body-back : (b₀ rest body : List ℕ) (o s : ℕ) → length body ≡ s → s ≤ o → o ≤ length b₀
+    → put (take o b₀ ++ rest) (o - s) body ≡ take (o - s) b₀ ++ (body ++ rest)
+body-back b₀ rest body o s e h l =
+    let n : length (take o b₀) ≡ o = length-take-le o b₀ l in
+    let front : take (o - s) (take o b₀ ++ rest) ≡ take (o - s) b₀ = take-append-le (o - s) (take o b₀) rest (omega arith) ∙ take-take (o - s) o b₀ (omega arith) in
+    let back : drop (o - s + length body) (take o b₀ ++ rest) ≡ rest = drop-at (take o b₀) rest (o - s + length body) (omega arith) in
+    rw (front, back) (append-assoc (take (o - s) b₀) body rest)
+
+pub length-put : (xs : List ℕ) (a : ℕ) (ys : List ℕ) → a + length ys ≤ length xs → length (put xs a ys) ≡ length xs
+length-put xs a ys h = simp (length-append, length-take, length-drop) (omega arith)

@@ -1,0 +1,32 @@
+-- What the functions that fill rows and bodies ask of each other.
+use mathlib.Core.Path.{_≡_}
+use mathlib.Core.List.{List, _++_}
+use Prim.Native.Nat.{ℕ, _+_, _-_, _*_, _≤_, _<_}
+use lib.ListN.{length, getD, set, take, drop}
+use Rattle.wire.specs.Frame.{Frame, bodiesOf}
+use Rattle.wire.specs.Walk.{at, readOf}
+use Rattle.wire.specs.declared.Shape.{Shape}
+
+-- xs, with ys from the index a on
+abbrev pub put : List ℕ → ℕ → List ℕ → List ℕ
+put xs a ys = take a xs ++ ys ++ drop (a + length ys) xs
+
+-- the body of a frame of these numbers whose octets start at a
+abbrev pub bodyAt : List ℕ → ℕ → Shape → List ℕ
+bodyAt p a x = set (take (x .size + x .tc) (drop a p)) (x .size - 1) (getD p (a + (x .size - 1)) 0 - x .code)
+
+-- the body of a frame at a stands in p, and n octets have room for it at o
+pub record BodyFits (p : List ℕ) (a : ℕ) (x : Shape) (n o : ℕ) : Type 0 where
+  pub inside : a + (x .size + x .tc) ≤ length p
+  pub room : o + (x .size + x .tc) ≤ n
+  pub based : 1 ≤ x .size
+  pub coded : x .code ≤ getD p (a + (x .size - 1)) 0
+
+-- the payload p holds n frames with m octets of bodies, for which r numbers and b octets have room
+pub record Known (p : List ℕ) (n m r b : ℕ) : Type 0 where
+  pub fs : List Frame
+  pub reads : readOf p ≡ at 0 fs
+  pub frames : n ≡ length fs
+  pub octets : m ≡ length (bodiesOf fs)
+  pub rows : 2 * n ≤ r
+  pub bodies : m ≤ b

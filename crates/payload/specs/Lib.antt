@@ -1,0 +1,4 @@
+pub mod Reading
+pub mod Promise
+pub mod Filling
+pub mod Bench

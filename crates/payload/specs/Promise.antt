@@ -1,0 +1,53 @@
+-- The reader's promise: demand 3, over `Legal` and `octetsOf` alone, beside the equations that fix number and place.
+use mathlib.Core.Path.{_≡_}
+use mathlib.Core.List.{List, [], _++_}
+use Prim.Native.Nat.{ℕ, _*_, _≤_}
+use lib.ListN.{length, drop}
+use Rattle.wire.specs.Frame.{Frame, Legal, octetsOf, rowsOf, bodiesOf}
+use Rattle.payload.specs.Reading.{readInto, Outcome, Report, reportOf}
+use Rattle.payload.specs.declared.Reading.{Reading}
+
+-- "The room is too small exactly if the number list is shorter than 2n or the octet buffer shorter than m"
+abbrev pub Room : List Frame → List ℕ → List ℕ → Type 0
+Room fs r b = (2 * length fs ≤ length r) × (length (bodiesOf fs) ≤ length b)
+
+-- the frames fs are what is handed back: "their kinds and TCs into the first 2n numbers and their bodies into the first m
+-- octets .. and reports n rows and m body octets"
+pub record HandedBack (fs : List Frame) (r b : List ℕ) (a : Report) (r′ b′ : List ℕ) : Type 0 where
+  pub number : a .number ≡ 0
+  pub place : a .place ≡ 0
+  pub rows : a .rows ≡ length fs
+  pub octets : a .octets ≡ length (bodiesOf fs)
+  pub list : r′ ≡ rowsOf fs ++ drop (2 * length fs) r
+  pub buffer : b′ ≡ bodiesOf fs ++ drop (length (bodiesOf fs)) b
+
+-- a refusal reports nothing and changes nothing
+pub record Unchanged (r b : List ℕ) (a : Report) (r′ b′ : List ℕ) : Type 0 where
+  pub rows : a .rows ≡ 0
+  pub octets : a .octets ≡ 0
+  pub list : r′ ≡ r
+  pub buffer : b′ ≡ b
+
+-- demand 3, of a payload p that was read into r and b: the report a, and what the lists are then, r′ and b′
+pub record Demand (p r b : List ℕ) (a : Report) (r′ b′ : List ℕ) : Type 0 where
+  -- refused: no legal sequence that gives the octets has room
+  pub refused : (a .number ≡ 0 → ⊥) → (fs : List Frame) → Legal fs → octetsOf fs ≡ p → Room fs r b → ⊥
+  -- accepted: there is one
+  pub accepted : a .number ≡ 0 → (fs : List Frame) × Legal fs × (octetsOf fs ≡ p) × Room fs r b
+  -- it is what is handed back
+  pub handed : (fs : List Frame) → Legal fs → octetsOf fs ≡ p → Room fs r b → HandedBack fs r b a r′ b′
+  -- it is the only one
+  pub unique : (fs gs : List Frame) → Legal fs → Legal gs → octetsOf fs ≡ p → octetsOf gs ≡ p → fs ≡ gs
+  pub unchanged : (a .number ≡ 0 → ⊥) → Unchanged r b a r′ b′
+  -- "at most 200 frames"
+  pub most : a .rows ≤ 200
+  -- accepted with no rows exactly if the payload is empty
+  pub empty : p ≡ [] → (a .number ≡ 0) × (a .rows ≡ 0)
+  pub only-empty : a .number ≡ 0 → a .rows ≡ 0 → p ≡ []
+
+-- what `read` promises: the answer and both lists by the definition, and the demand
+pub record Reads (p r b : List ℕ) (a : Reading) (r′ b′ : List ℕ) : Type 0 where
+  pub answer : a ≡ readInto p r b .answer
+  pub rows : r′ ≡ readInto p r b .rows
+  pub bodies : b′ ≡ readInto p r b .bodies
+  pub demand : Demand p r b (reportOf a) r′ b′

@@ -1,0 +1,70 @@
+-- What reading a payload answers, and what the lent rows and bodies hold afterwards: document 01, "Reader".
+use mathlib.Core.Bool.{cond}
+use mathlib.Core.List.{List, _++_}
+use Prim.Native.Nat.{ℕ, _*_, _/_}
+use lib.Dec.{ltb}
+use lib.ListN.{length, drop}
+use Rattle.refusal.specs.Numbers.{shortList, shortBuffer}
+use Rattle.refusal.specs.declared.Refusal.{Refusal}
+use Rattle.wire.specs.Frame.{Frame, rowsOf, bodiesOf, ticksOf}
+use Rattle.wire.specs.Walk.{Walk, at, refused, readOf}
+use Rattle.payload.specs.declared.Totals.{Totals}
+use Rattle.payload.specs.declared.Contents.{Contents}
+use Rattle.payload.specs.declared.Contents.the-variants as contents
+use Rattle.payload.specs.declared.Reading.{Reading}
+use Rattle.payload.specs.declared.Reading.the-variants as reading
+
+-- "A refusal returns its number and a place"
+abbrev pub refuse : ℕ → ℕ → Refusal
+refuse n place = record { number = n; place = place }
+
+-- what a sequence holds in all: frames, body octets, ticks
+abbrev pub totals : List Frame → Totals
+totals fs = record { frames = length fs; octets = length (bodiesOf fs); ticks = ticksOf fs }
+
+-- what a walk comes to, in numbers
+abbrev pub contentsOf : Walk → Contents
+contentsOf (at u fs) = contents.Whole (totals fs)
+contentsOf (refused n place later) = contents.Refused (refuse n place)
+
+-- an answer, and what the lent rows and bodies hold afterwards
+pub record Outcome : Type 0 where
+  pub answer : Reading
+  pub rows : List ℕ
+  pub bodies : List ℕ
+
+-- "A refusal .. leaves all lent memory unchanged": r and b are as they were
+abbrev pub kept : ℕ → ℕ → List ℕ → List ℕ → Outcome
+kept n place r b = record { answer = reading.Refused (refuse n place); rows = r; bodies = b }
+
+-- an accepted read: rows and bodies in the first places, "all beyond them stays unchanged"
+abbrev pub handedOut : List Frame → List ℕ → List ℕ → Outcome
+handedOut fs r b = record {
+  answer = reading.Read (length fs) (length (bodiesOf fs));
+  rows = rowsOf fs ++ drop (2 * length fs) r;
+  bodies = bodiesOf fs ++ drop (length (bodiesOf fs)) b;
+}
+
+-- "After the walk: 9, then 10. An odd number list has room for half its length, rounded down"
+unfoldable pub settle : List ℕ → List ℕ → Walk → Outcome
+settle r b (refused n place later) = kept n place r b
+settle r b (at u fs) =
+    cond (ltb (length r / 2) (length fs)) (kept shortList (length fs) r b)
+    (cond (ltb (length b) (length (bodiesOf fs))) (kept shortBuffer (length (bodiesOf fs)) r b) (handedOut fs r b))
+
+-- reading the payload p into the lent rows r and bodies b
+abbrev pub readInto : List ℕ → List ℕ → List ℕ → Outcome
+readInto p r b = settle r b (readOf p)
+
+-- document 01's numbers for an answer: "A refusal returns its number and a place, reports 0 rows and 0 octets"; an
+-- acceptance has number 0 and place 0
+pub record Report : Type 0 where
+  pub number : ℕ
+  pub place : ℕ
+  pub rows : ℕ
+  pub octets : ℕ
+
+-- the numbers of each case of the answer
+abbrev pub reportOf : Reading → Report
+reportOf (reading.Read n m) = record { number = 0; place = 0; rows = n; octets = m }
+reportOf (reading.Refused x) = record { number = x .number; place = x .place; rows = 0; octets = 0 }

@@ -1,0 +1,191 @@
+// Payloads of MELPe and TSVCIS frames: one walk over a payload, and the reader, which hands out its rows and bodies.
+ghost use mathlib.Core.Path.{_≡_};
+ghost use Prim.Native.Nat.{_+_, _*_, _≤_, _<_};
+ghost use lib.ListN.{length, set, drop};
+ghost use lib.Seq.{paste};
+ghost use Rattle.wire.specs.Walk.{readOf};
+ghost use Rattle.payload.specs.Reading.{contentsOf, readInto};
+ghost use Rattle.payload.specs.Filling.{Known, BodyFits, put, bodyAt};
+ghost use Rattle.payload.specs.Promise.{Reads};
+use refusal::Refusal;
+use wire::Found;
+use wire::Shape;
+
+const MOST_OCTETS: usize = 1400;
+
+// What a payload holds in all.
+pub struct Totals {
+    pub frames: usize,
+    pub octets: usize,
+    pub ticks: usize,
+}
+
+// What the walk over a payload comes to: an empty payload holds no frames, and a refused one is the other case.
+pub enum Contents {
+    Whole(Totals),
+    Refused(Refusal),
+}
+
+// Frames and body octets that were handed out, or the refusal.
+pub enum Reading {
+    Read(usize, usize),
+    Refused(Refusal),
+}
+
+// The walk, from the payload's end to its front: all that is asked of a payload is asked here first.
+pub fn survey(payload: &[u8]) -> Contents
+    ensures { λ r. ⌜ r ≡ contentsOf (readOf (now (payload .entry))) ⌝ }
+{
+    if MOST_OCTETS < payload.len() {
+        return Contents::Refused(Refusal {
+            number: refusal::TOO_LONG,
+            place: MOST_OCTETS,
+        });
+    }
+    let mut unread = payload.len();
+    let mut frames: usize = 0;
+    let mut octets: usize = 0;
+    let mut ticks: usize = 0;
+    let mut rate: u32 = 0;
+    while 0 < unread {
+        let found = wire::step(&payload[..unread], frames, rate);
+        match found {
+            Found::Bad(number) => {
+                return Contents::Refused(Refusal {
+                    number,
+                    place: unread,
+                });
+            }
+            Found::Got(shape) => {
+                unread -= shape.wire;
+                frames += 1;
+                octets += shape.size + shape.tc;
+                ticks += shape.ticks;
+                rate = shape.rate;
+            }
+        }
+    }
+    Contents::Whole(Totals {
+        frames,
+        octets,
+        ticks,
+    })
+}
+
+// Copies len octets of src, from an index on, into dst at an index.
+fn copy_part(src: &[u8], from: usize, len: usize, dst: &mut [u8], at: usize)
+    requires { ⌜ (from + len ≤ length (now src)) × (at + len ≤ length (now dst)) ⌝ }
+    ensures { λ _. ⌜ now (dst .exit) ≡ paste (now (dst .entry)) at (drop from (now (src .entry))) len ⌝ }
+{
+    let mut j = 0;
+    while j < len {
+        dst[at + j] = src[from + j];
+        j += 1;
+    }
+}
+
+// The same for seven octets, all read before the first is stored: the compiler then moves them as words.
+fn copy_seven(src: &[u8], from: usize, dst: &mut [u8], at: usize)
+    requires { ⌜ (from + 7 ≤ length (now src)) × (at + 7 ≤ length (now dst)) ⌝ }
+    ensures { λ _. ⌜ now (dst .exit) ≡ paste (now (dst .entry)) at (drop from (now (src .entry))) 7 ⌝ }
+{
+    let a = src[from];
+    let b = src[from + 1];
+    let c = src[from + 2];
+    let d = src[from + 3];
+    let e = src[from + 4];
+    let f = src[from + 5];
+    let g = src[from + 6];
+    dst[at] = a;
+    dst[at + 1] = b;
+    dst[at + 2] = c;
+    dst[at + 3] = d;
+    dst[at + 4] = e;
+    dst[at + 5] = f;
+    dst[at + 6] = g;
+}
+
+// The same for any number of octets: nearly every base has seven.
+fn copy_octets(src: &[u8], from: usize, len: usize, dst: &mut [u8], at: usize)
+    requires { ⌜ (from + len ≤ length (now src)) × (at + len ≤ length (now dst)) ⌝ }
+    ensures { λ _. ⌜ now (dst .exit) ≡ paste (now (dst .entry)) at (drop from (now (src .entry))) len ⌝ }
+{
+    if len < 7 {
+        copy_part(src, from, len, dst, at);
+        return;
+    }
+    copy_seven(src, from, dst, at);
+    copy_part(src, from + 7, len - 7, dst, at + 7);
+}
+
+// The body of the frame whose octets start at an index of the payload, into dst.
+fn put_body(payload: &[u8], start: usize, shape: Shape, dst: &mut [u8], at: usize)
+    requires { ⌜ BodyFits (now payload) start shape (length (now dst)) at ⌝ }
+    ensures { λ _. ⌜ now (dst .exit) ≡ put (now (dst .entry)) at (bodyAt (now (payload .entry)) start shape) ⌝ }
+{
+    let last = shape.size - 1;
+    copy_octets(payload, start, shape.size + shape.tc, dst, at);
+    dst[at + last] = payload[start + last] - shape.code;
+}
+
+fn put_row(rows: &mut [u16], i: usize, kind: u16, tc: usize)
+    requires { ⌜ (2 * i + 2 ≤ length (now rows)) × (tc < 65536) ⌝ }
+    ensures { λ _. ⌜ now (rows .exit) ≡ set (set (now (rows .entry)) (2 * i) kind) (2 * i + 1) tc ⌝ }
+{
+    rows[2 * i] = kind;
+    rows[2 * i + 1] = tc as u16;
+}
+
+// The rows and bodies of a payload that is known to hold n frames with m octets of bodies, from the last to the first.
+fn fill(payload: &[u8], rows: &mut [u16], bodies: &mut [u8], n: usize, m: usize)
+    requires { ⌜ Known (now payload) n m (length (now rows)) (length (now bodies)) ⌝ }
+    ensures { λ _. ⌜ (now (rows .exit) ≡ readInto (now (payload .entry)) (now (rows .entry)) (now (bodies .entry)) .rows)
+        × (now (bodies .exit) ≡ readInto (now (payload .entry)) (now (rows .entry)) (now (bodies .entry)) .bodies) ⌝ }
+{
+    let mut unread = payload.len();
+    let mut i = n;
+    let mut o = m;
+    while 0 < unread {
+        let found = wire::name(&payload[..unread]);
+        match found {
+            Found::Bad(_) => {
+                return;
+            }
+            Found::Got(shape) => {
+                unread -= shape.wire;
+                i -= 1;
+                o -= shape.size + shape.tc;
+                put_row(rows, i, shape.kind, shape.tc);
+                put_body(payload, unread, shape, bodies, o);
+            }
+        }
+    }
+}
+
+// Reads a payload: its frames into rows and bodies, or a refusal, which leaves both as they were.
+pub fn read(payload: &[u8], rows: &mut [u16], bodies: &mut [u8]) -> Reading
+    ensures { λ r. ⌜ Reads (now (payload .entry)) (now (rows .entry)) (now (bodies .entry)) r (now (rows .exit)) (now (bodies .exit)) ⌝ }
+{
+    let seen = survey(payload);
+    match seen {
+        Contents::Refused(refusal) => Reading::Refused(refusal),
+        Contents::Whole(totals) => {
+            let n = totals.frames;
+            let m = totals.octets;
+            if rows.len() / 2 < n {
+                return Reading::Refused(Refusal {
+                    number: refusal::SHORT_LIST,
+                    place: n,
+                });
+            }
+            if bodies.len() < m {
+                return Reading::Refused(Refusal {
+                    number: refusal::SHORT_BUFFER,
+                    place: m,
+                });
+            }
+            fill(payload, rows, bodies, n, m);
+            Reading::Read(n, m)
+        }
+    }
+}
