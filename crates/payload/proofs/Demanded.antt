@@ -10,12 +10,13 @@ use Rattle.refusal.specs.declared.Refusal.{Refusal}
 use Rattle.wire.specs.Frame.{Frame, Octets, Legal, octetsOf, rowsOf, bodiesOf}
 use Rattle.wire.specs.Walk.{Walk, at, refused, readOf}
 use Rattle.wire.proofs.Tables.{below-or}
-use Rattle.wire.proofs.Complete.{complete, unique}
+use Rattle.wire.proofs.Complete.{unique}
 use Rattle.wire.proofs.Sound.{sound, Ended, read-ends}
 use Rattle.wire.proofs.Ranges.{InRange, in-range, frames-most}
-use Rattle.payload.specs.Reading.{refuse, totals, contentsOf, Outcome, kept, handedOut, settle, readInto, Report, reportOf}
+use Rattle.payload.specs.Reading.{refuse, contentsOf, Outcome, kept, handedOut, settle, readInto, Report, reportOf}
 use Rattle.payload.specs.Promise.{Room, HandedBack, Unchanged, Demand, Reads}
 use Rattle.payload.specs.Filling.{Known}
+use Rattle.payload.proofs.Seen.{Accepted, accepted, denied, reads-it}
 use Rattle.payload.specs.declared.Totals.{Totals}
 use Rattle.payload.specs.declared.Contents.{Contents}
 use Rattle.payload.specs.declared.Contents.the-variants as contents
@@ -44,9 +45,7 @@ module _ (r b : List ℕ) where
 module _ (p r b : List ℕ) where
   -- a legal sequence that gives the octets, with room for it, is handed out
   pub hands-out : (fs : List Frame) → Legal fs → octetsOf fs ≡ p → Room fs r b → readInto p r b ≡ handedOut fs r b
-  hands-out fs l e (hr, hb) =
-      let w : readOf p ≡ at 0 fs = ap readOf (sym e) ∙ complete fs l in
-      ap (settle r b) w ∙ settle-right r b 0 fs (omega arith) hb
+  hands-out fs l e (hr, hb) = ap (settle r b) (reads-it p fs l e) ∙ settle-right r b 0 fs (omega arith) hb
 
   -- a reading hands out a legal sequence, or refuses, and then no such sequence has room
   data View (x : Outcome) : Type 0 where
@@ -133,59 +132,37 @@ module _ (p r b : List ℕ) where
 
   module _ (o : Octets p) {s : Contents} (is : s ≡ contentsOf (readOf p)) where
     pub read-refused : (x : Refusal) → s ≡ contents.Refused x → Reads p r b (reading.Refused x) r b
-    read-refused x e = go (readOf p) refl (sym is ∙ e)
-      where
-        go : (w : Walk) → readOf p ≡ w → contentsOf (readOf p) ≡ contents.Refused x → Reads p r b (reading.Refused x) r b
-        go (at u fs) q d =
-            let c : contents.Whole (totals fs) ≡ contents.Refused x = ap contentsOf (sym q) ∙ d in
-            absurd (let z : _≡_ {A = ℕ} 0 1 = cc in omega arith)
-        go (refused n place later) q d =
-            let c : contents.Refused (refuse n place) ≡ contents.Refused x = ap contentsOf (sym q) ∙ d in
-            let f : refuse n place ≡ x = cc in
-            promised o (kept n place r b) (ap (settle r b) q ∙ settle-refused r b n place later) (ap reading.Refused (sym f)) refl refl
+    read-refused x e =
+        let d = denied p is x e in
+        promised o (kept (x .number) (x .place) r b) (ap (settle r b) (d .reads) ∙ settle-refused r b (x .number) (x .place) (d .later)) refl refl refl
 
     module _ (t : Totals) (e : s ≡ contents.Whole t) where
-      -- the frames that the survey went over
-      pub record Over : Type 0 where
-        pub fs : List Frame
-        pub reads : readOf p ≡ at 0 fs
-        pub frames : t .frames ≡ length fs
-        pub octets : t .octets ≡ length (bodiesOf fs)
-        pub ticks : t ≡ totals fs
+      w : Accepted p t
+      w = accepted p is o t e
 
-      pub over : Over
-      over = go (readOf p) refl (read-ends p) (sym is ∙ e)
-        where
-          go : (w : Walk) → readOf p ≡ w → Ended w → contentsOf (readOf p) ≡ contents.Whole t → Over
-          go (refused n place later) q h d =
-              let c : contents.Refused (refuse n place) ≡ contents.Whole t = ap contentsOf (sym q) ∙ d in
-              absurd (let z : _≡_ {A = ℕ} 0 1 = cc in omega arith)
-          go (at (suc u) fs) q h d = absurd h
-          go (at zero fs) q h d =
-              let c : contents.Whole (totals fs) ≡ contents.Whole t = ap contentsOf (sym q) ∙ d in
-              let f : totals fs ≡ t = cc in
-              record { fs = fs; reads = q; frames = ap (λ (y : Totals). y .frames) (sym f); octets = ap (λ (y : Totals). y .octets) (sym f); ticks = sym f }
+      frames : t .frames ≡ length (w .fs)
+      frames = ap (λ (y : Totals). y .frames) (w .is)
+
+      octets : t .octets ≡ length (bodiesOf (w .fs))
+      octets = ap (λ (y : Totals). y .octets) (w .is)
 
       pub read-few : length r / 2 < t .frames → Reads p r b (reading.Refused (refuse 9 (t .frames))) r b
       read-few h =
-          let w = over in
-          promised o (kept 9 (length (w .fs)) r b) (ap (settle r b) (w .reads) ∙ settle-few r b 0 (w .fs) (omega (arith, w .frames)))
-          (ap (λ (n : ℕ). reading.Refused (refuse 9 n)) (w .frames)) refl refl
+          promised o (kept 9 (length (w .fs)) r b) (ap (settle r b) (w .reads) ∙ settle-few r b 0 (w .fs) (omega (arith, frames)))
+          (ap (λ (n : ℕ). reading.Refused (refuse 9 n)) frames) refl refl
 
       pub read-short : t .frames ≤ length r / 2 → length b < t .octets → Reads p r b (reading.Refused (refuse 10 (t .octets))) r b
       read-short h l =
-          let w = over in
           promised o (kept 10 (length (bodiesOf (w .fs))) r b)
-          (ap (settle r b) (w .reads) ∙ settle-short r b 0 (w .fs) (omega (arith, w .frames)) (omega (arith, w .octets)))
-          (ap (λ (n : ℕ). reading.Refused (refuse 10 n)) (w .octets)) refl refl
+          (ap (settle r b) (w .reads) ∙ settle-short r b 0 (w .fs) (omega (arith, frames)) (omega (arith, octets)))
+          (ap (λ (n : ℕ). reading.Refused (refuse 10 n)) octets) refl refl
 
       pub read-known : t .frames ≤ length r / 2 → t .octets ≤ length b → Known p (t .frames) (t .octets) (length r) (length b)
-      read-known h l = let w = over in record { fs = w .fs; reads = w .reads; frames = w .frames; octets = w .octets; rows = omega arith; bodies = l }
+      read-known h l = record { fs = w .fs; reads = w .reads; frames = frames; octets = octets; rows = omega arith; bodies = l }
 
       pub read-right : t .frames ≤ length r / 2 → t .octets ≤ length b → {r′ b′ : List ℕ} → r′ ≡ readInto p r b .rows → b′ ≡ readInto p r b .bodies
           → Reads p r b (reading.Read (t .frames) (t .octets)) r′ b′
       read-right h l er eb =
-          let w = over in
-          let q : readInto p r b ≡ handedOut (w .fs) r b = ap (settle r b) (w .reads) ∙ settle-right r b 0 (w .fs) (omega (arith, w .frames)) (omega (arith, w .octets)) in
+          let q : readInto p r b ≡ handedOut (w .fs) r b = ap (settle r b) (w .reads) ∙ settle-right r b 0 (w .fs) (omega (arith, frames)) (omega (arith, octets)) in
           promised o (readInto p r b) refl
-          (ap (λ (n : ℕ). reading.Read n (t .octets)) (w .frames) ∙ ap (reading.Read (length (w .fs))) (w .octets) ∙ ap (λ (x : Outcome). x .answer) (sym q)) er eb
+          (ap (λ (n : ℕ). reading.Read n (t .octets)) frames ∙ ap (reading.Read (length (w .fs))) octets ∙ ap (λ (x : Outcome). x .answer) (sym q)) er eb

@@ -1,5 +1,6 @@
 pub mod Copied
 pub mod Surveyed
+pub mod Seen
 pub mod Onward
 pub mod Stored
 pub mod Filled

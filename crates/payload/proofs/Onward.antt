@@ -18,16 +18,14 @@ use Rattle.wire.proofs.Ended.{Whole, Wholes, last-says}
 use Rattle.wire.proofs.Sound.{run-refused}
 use Rattle.wire.proofs.Prefix.{ending-take}
 use Rattle.wire.proofs.Shapes.{Shaped, shaped, bad-is}
-
-pub never : {n place u : ℕ} {later fs : List Frame} → refused n place later ≡ at u fs → ⊥
-never e = let z : _≡_ {A = ℕ} 0 1 = cc in omega arith
+use Rattle.payload.proofs.Seen.{differ}
 
 pub read-run : (p : List ℕ) (fs : List Frame) → readOf p ≡ at 0 fs → run (length p) p (at (length p) []) ≡ at 0 fs
 unfolding readOf
 read-run p fs e = go (below-or 1400 (length p))
   where
     go : (1400 < length p) ⊎ (length p ≤ 1400) → run (length p) p (at (length p) []) ≡ at 0 fs
-    go (inl h) = absurd (never (simp (lt-ltb 1400 (length p) h) at e))
+    go (inl h) = absurd (differ (simp (lt-ltb 1400 (length p) h) at e))
     go (inr h) = simp (le-ltb 1400 (length p) h) at e
 
 -- the outcome of a walk holds the frames that were read on the way
@@ -39,7 +37,7 @@ grows (suc f) p (suc u) later fs e = go (λ v gs d. grows f p v gs fs d) (beside
   where
     go : ((v : ℕ) (gs : List Frame) → run f p (at v gs) ≡ at 0 fs → (length gs ≤ length fs) × (length (bodiesOf gs) ≤ length (bodiesOf fs)))
         → (x : Ending) → run f p (turn p (suc u) later x) ≡ at 0 fs → (length later ≤ length fs) × (length (bodiesOf later) ≤ length (bodiesOf fs))
-    go ih (bad n) d = absurd (never (sym (run-refused f p n (suc u) later) ∙ d))
+    go ih (bad n) d = absurd (differ (sym (run-refused f p n (suc u) later) ∙ d))
     go ih (got k t) d =
         let g = ih _ _ d in
         (omega arith, omega (arith, g .1, length-append (frameAt p (suc u - wireLength k t) k t .body) (bodiesOf later)))
@@ -58,7 +56,7 @@ onward p u later fs zero pos l e = absurd (omega arith)
 onward p u later fs (suc f) pos l e = go (beside (length later) (seen later) (lastFrame p u)) refl (ap (run f p) (sym (next-at p u later pos)) ∙ e)
   where
     go : (x : Ending) → beside (length later) (seen later) (lastFrame p u) ≡ x → run f p (turn p u later (beside (length later) (seen later) (lastFrame p u))) ≡ at 0 fs → Onward p u later fs
-    go (bad n) q d = absurd (never (sym (run-refused f p n u later) ∙ (rw q at d)))
+    go (bad n) q d = absurd (differ (sym (run-refused f p n u later) ∙ (rw q at d)))
     go (got k t) q d = record {
       kind = k;
       tc = t;

@@ -1,0 +1,62 @@
+-- Document 01, "Time on the clock and time in settings".
+use mathlib.Core.Path.{_≡_}
+use mathlib.Core.Bool.{cond}
+use mathlib.Core.List.{List, []}
+use Prim.Native.Nat.{ℕ, _+_, _*_, _/_}
+use lib.Dec.{eqb, ltb}
+use Rattle.refusal.specs.Numbers.{unknownKind}
+use Rattle.refusal.specs.declared.Refusal.{Refusal}
+use Rattle.wire.specs.Frame.{Frame, Legal, octetsOf, ticksOf}
+use Rattle.wire.specs.Walk.{Walk, at, refused, readOf}
+use Rattle.clock.specs.declared.Ticks.{Ticks}
+use Rattle.clock.specs.declared.Millis.{Millis}
+use Rattle.clock.specs.declared.PacketTicks.{PacketTicks}
+use Rattle.clock.specs.declared.PacketTicks.the-variants as packet
+use Rattle.clock.specs.declared.PacketMillis.{PacketMillis}
+use Rattle.clock.specs.declared.PacketMillis.the-variants as settings
+
+-- "A coder frame lasts 180, 540 or 720 ticks at 2400, 1200, 600"; no other number is a rate
+unfoldable pub ticksOfRate : ℕ → ℕ
+ticksOfRate r = cond (eqb r 2400) 180 (cond (eqb r 1200) 540 (cond (eqb r 600) 720 0))
+
+-- what a walk's payload lasts: the sum over its frames; "A refused payload gives its refusal"
+abbrev pub packetTicks : Walk → PacketTicks
+packetTicks (at u fs) = packet.Lasts (record { 0 = ticksOf fs })
+packetTicks (refused n place later) = packet.Refused (record { number = n; place = place })
+
+-- document 01's numbers for an answer: "its refusal and 0 ticks"; number 0 and place 0 where the payload is accepted
+pub record TimeReport : Type 0 where
+  pub number : ℕ
+  pub place : ℕ
+  pub time : ℕ
+
+-- the numbers of each case of a packet's time
+abbrev pub packetReport : PacketTicks → TimeReport
+packetReport (packet.Lasts t) = record { number = 0; place = 0; time = t .0 }
+packetReport (packet.Refused x) = record { number = x .number; place = x .place; time = 0 }
+
+-- what `packet_ticks` promises of a payload p: the answer by the walk, and by legal sequences alone
+pub record PacketTime (p : List ℕ) (a : PacketTicks) : Type 0 where
+  pub answer : a ≡ packetTicks (readOf p)
+  -- of a legal sequence that gives p, its ticks
+  pub ticks : (fs : List Frame) → Legal fs → octetsOf fs ≡ p → packetReport a ≡ record { number = 0; place = 0; time = ticksOf fs }
+  -- accepted: there is one
+  pub accepted : packetReport a .number ≡ 0 → (fs : List Frame) × Legal fs × (octetsOf fs ≡ p)
+  -- refused: 0 ticks
+  pub refused : (packetReport a .number ≡ 0 → ⊥) → packetReport a .time ≡ 0
+
+-- "refusal 12 and 0"
+abbrev pub noPtime : PacketMillis
+noPtime = settings.Refused (record { number = unknownKind; place = 0 })
+
+-- "ptime of n frames is n times the ticks, divided by 8, rounded up; n is 1 to 200": 113 and 158 milliseconds for five and
+-- seven frames at 2400, where source document 000 lists 112 and 156 against its own rule
+unfoldable pub ptimeOf : ℕ → ℕ → PacketMillis
+ptimeOf rate n =
+    cond (eqb (ticksOfRate rate) 0) noPtime
+    (cond (ltb n 1) noPtime (cond (ltb 200 n) noPtime (settings.Lasts (record { 0 = (n * ticksOfRate rate + 7) / 8 }))))
+
+-- the numbers of each case of a ptime
+abbrev pub ptimeReport : PacketMillis → TimeReport
+ptimeReport (settings.Lasts t) = record { number = 0; place = 0; time = t .0 }
+ptimeReport (settings.Refused x) = record { number = x .number; place = x .place; time = 0 }

@@ -1,0 +1,75 @@
+// Time: ticks of 1/8000 second on the clock, milliseconds in settings. The two are types of their own and never mix.
+ghost use mathlib.Core.Path.{_≡_};
+ghost use Prim.Native.Nat.{_≤_};
+ghost use Rattle.clock.specs.Time.{ticksOfRate, ptimeOf, PacketTime};
+
+use payload::Contents;
+use refusal::Refusal;
+
+// Ticks of 1/8000 second.
+pub struct Ticks(pub usize);
+
+// Milliseconds.
+pub struct Millis(pub usize);
+
+// What a packet lasts, or why its payload was refused: never 0 ticks for a payload that could not be split.
+pub enum PacketTicks {
+    Lasts(Ticks),
+    Refused(Refusal),
+}
+
+// The ptime of some frames, or the refusal.
+pub enum PacketMillis {
+    Lasts(Millis),
+    Refused(Refusal),
+}
+
+// The ticks of the payload's frames.
+pub fn packet_ticks(payload: &[u8]) -> PacketTicks
+    ensures { λ r. ⌜ PacketTime (now (payload .entry)) r ⌝ }
+{
+    let seen = payload::survey(payload);
+    match seen {
+        Contents::Refused(refusal) => PacketTicks::Refused(refusal),
+        Contents::Whole(totals) => PacketTicks::Lasts(Ticks(totals.ticks)),
+    }
+}
+
+// The ticks of a coder frame at a rate; 0 at any other number.
+fn ticks_of_rate(rate: u32) -> usize
+    ensures { λ r. ⌜ r ≡ ticksOfRate rate ⌝ }
+{
+    if rate == 2400 {
+        return 180;
+    }
+    if rate == 1200 {
+        return 540;
+    }
+    if rate == 600 {
+        return 720;
+    }
+    0
+}
+
+fn unknown() -> PacketMillis
+    ensures { λ r. ⌜ r ≡ PacketMillis.Refused (record { number = 12; place = 0 }) ⌝ }
+{
+    PacketMillis::Refused(Refusal { number: refusal::UNKNOWN, place: 0 })
+}
+
+// The packet time of a number of frames at a rate, in whole milliseconds, rounded up.
+pub fn ptime(rate: u32, frames: usize) -> PacketMillis
+    ensures { λ r. ⌜ r ≡ ptimeOf rate frames ⌝ }
+{
+    let ticks = ticks_of_rate(rate);
+    if ticks == 0 {
+        return unknown();
+    }
+    if frames < 1 {
+        return unknown();
+    }
+    if 200 < frames {
+        return unknown();
+    }
+    PacketMillis::Lasts(Millis((frames * ticks + 7) / 8))
+}
