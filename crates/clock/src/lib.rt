@@ -2,7 +2,6 @@
 ghost use mathlib.Core.Path.{_≡_};
 ghost use Prim.Native.Nat.{_≤_};
 ghost use Rattle.clock.specs.Time.{ticksOfRate, ptimeOf, PacketTime};
-
 use payload::Contents;
 use refusal::Refusal;
 
@@ -54,7 +53,10 @@ fn ticks_of_rate(rate: u32) -> usize
 fn unknown() -> PacketMillis
     ensures { λ r. ⌜ r ≡ PacketMillis.Refused (record { number = 12; place = 0 }) ⌝ }
 {
-    PacketMillis::Refused(Refusal { number: refusal::UNKNOWN, place: 0 })
+    PacketMillis::Refused(Refusal {
+        number: refusal::UNKNOWN,
+        place: 0,
+    })
 }
 
 // The packet time of a number of frames at a rate, in whole milliseconds, rounded up.

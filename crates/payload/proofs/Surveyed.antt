@@ -30,7 +30,7 @@ ticks-most noise = omega arith
 ticks-most tsvcis = omega arith
 
 -- a turn's frame is whole
-beside-keeps : (p : List ℕ) (u n s : ℕ) (e : Ending) → Wholes p u e → Wholes p u (beside n s e)
+pub beside-keeps : (p : List ℕ) (u n s : ℕ) (e : Ending) → Wholes p u e → Wholes p u (beside n s e)
 unfolding beside
 beside-keeps p u n s (bad x) w = tt
 beside-keeps p u n s (got k t) w = go (late k n) (clash (rate k) s)

@@ -51,7 +51,7 @@ module _ (q rest : List ℕ) (f : Frame) (legal : LegalFrame f) where
 
 -- ---- a sequence, from its end
 
-data Snoc : List Frame → Type 0 where
+pub data Snoc : List Frame → Type 0 where
   none : Snoc []
   snoc : {gs : List Frame} → Snoc gs → (g : Frame) → Snoc (gs ++ (g ∷ []))
 
@@ -59,16 +59,16 @@ snoc-cons : (f : Frame) {gs : List Frame} → Snoc gs → Snoc (f ∷ gs)
 snoc-cons f none = snoc none f
 snoc-cons f (snoc v g) = snoc (snoc-cons f v) g
 
-from-end : (fs : List Frame) → Snoc fs
+pub from-end : (fs : List Frame) → Snoc fs
 from-end [] = none
 from-end (f ∷ fs) = snoc-cons f (from-end fs)
 
-octets-append : (fs gs : List Frame) → octetsOf (fs ++ gs) ≡ octetsOf fs ++ octetsOf gs
+pub octets-append : (fs gs : List Frame) → octetsOf (fs ++ gs) ≡ octetsOf fs ++ octetsOf gs
 octets-append [] gs = refl
 octets-append (f ∷ fs) gs = rw (octets-append fs gs) (sym (append-assoc (wire f) (octetsOf fs) (octetsOf gs)))
 
 -- what holds of a frame in the middle
-middle : (r : ℕ) (gs : List Frame) (g : Frame) (later : List Frame) → OfRate r (gs ++ (g ∷ later))
+pub middle : (r : ℕ) (gs : List Frame) (g : Frame) (later : List Frame) → OfRate r (gs ++ (g ∷ later))
     → LegalFrame g × Stands r (g .kind) later × OfRate r later
 middle r [] g later o = o
 middle r (f ∷ gs) g later o = middle r gs g later (o .2)
@@ -77,7 +77,7 @@ pub stay : (n : ℕ) (p : List ℕ) (fs : List Frame) → run n p (at 0 fs) ≡ 
 stay zero p fs = refl
 stay (suc n) p fs = stay n p fs
 
-octets-snoc : (gs : List Frame) (g : Frame) → octetsOf (gs ++ (g ∷ [])) ≡ octetsOf gs ++ wire g
+pub octets-snoc : (gs : List Frame) (g : Frame) → octetsOf (gs ++ (g ∷ [])) ≡ octetsOf gs ++ wire g
 octets-snoc gs g = octets-append gs (g ∷ []) ∙ ap (λ (w : List ℕ). octetsOf gs ++ w) (append-nil (wire g))
 
 length-snoc : (gs : List Frame) (g : Frame) → LegalFrame g → length (octetsOf (gs ++ (g ∷ []))) ≡ length (octetsOf gs) + wireLength (g .kind) (g .tc)
