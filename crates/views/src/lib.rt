@@ -39,8 +39,8 @@ fn seek(payload: &[u8], row: usize, n: usize) -> Place
     Place::Missing
 }
 
-// The place of a row, missing too where the payload is refused.
-fn locate(payload: &[u8], row: usize) -> Place
+// The place of a row, missing too where the payload is refused: the numbers behind both views.
+pub fn locate(payload: &[u8], row: usize) -> Place
     ensures { λ r. ⌜ r ≡ placeOf (readOf (now (payload .entry))) row ⌝ }
 {
     let seen = payload::survey(payload);

@@ -1,0 +1,95 @@
+-- The host's count, as the code computes it and as it is promised.
+use mathlib.Core.Path.{_≡_, refl, sym, ap, _∙_}
+use mathlib.Core.List.{List, [], _∷_}
+use Prim.Native.Nat.{ℕ, zero, suc, _+_, _≤_, _<_}
+use native.Mathlib.Omega.{arith}
+use lib.ListN.{length}
+use lib.IntN.{ℤ, pos, negsuc, negℤ, _-ℤ_, +ℤ-idl}
+use mir.Syntax.{w32}
+use mir.Val.{SFits, toZ, ofZ}
+use mir.Facts.{toZ-pos, toZ-ofZ}
+use Rattle.refusal.specs.declared.Refusal.{Refusal}
+use Rattle.wire.specs.Frame.{Frame, Octets, Legal, octetsOf}
+use Rattle.wire.specs.Walk.{Walk, at, refused, readOf}
+use Rattle.wire.proofs.Sound.{sound, Ended, read-ends}
+use Rattle.wire.proofs.Complete.{unique}
+use Rattle.wire.proofs.Ranges.{InRange, in-range, frames-most}
+use Rattle.payload.specs.Reading.{contentsOf}
+use Rattle.payload.specs.declared.Totals.{Totals}
+use Rattle.payload.specs.declared.Contents.{Contents}
+use Rattle.payload.specs.declared.Contents.the-variants as contents
+use Rattle.payload.proofs.Seen.{reads-it, none-gives, accepted, denied}
+use Rattle.host.specs.Host.{hostCount, Counted}
+
+pub empty-legal : Legal []
+empty-legal = (0, tt, omega arith)
+
+no-frames : (fs : List Frame) → length fs ≡ 0 → fs ≡ []
+no-frames [] e = refl
+no-frames (f ∷ fs) e = absurd (omega arith)
+
+-- minus a refusal number is not 0
+minus-some : (n : ℕ) → 1 ≤ n → negℤ (pos n) ≡ pos 0 → ⊥
+minus-some zero h e = omega arith
+minus-some (suc n) h e = let z : _≡_ {A = ℕ} 0 1 = cc in omega arith
+
+pub counted : (p : List ℕ) (r : ℤ) → Octets p → r ≡ hostCount (readOf p) → Counted p r
+unfolding hostCount
+counted p r o e = go (readOf p) refl (read-ends p)
+  where
+    frames : (fs : List Frame) → Legal fs → octetsOf fs ≡ p → r ≡ pos (length fs)
+    frames fs l g = e ∙ ap hostCount (reads-it p fs l g)
+
+    go : (w : Walk) → readOf p ≡ w → Ended w → Counted p r
+    go (at (suc u) fs) q h = absurd h
+    go (at zero fs) q h =
+        let s = sound p fs o q in
+        record {
+          answer = e;
+          empty = λ z. frames [] empty-legal (sym z);
+          only-empty = λ z.
+              let c : pos (length fs) ≡ pos 0 = sym (frames fs (s .0) (s .1)) ∙ z in
+              let n : length fs ≡ 0 = cc in
+              sym (s .1) ∙ ap octetsOf (no-frames fs n);
+          frames = frames;
+          negative = λ none. absurd (none fs (s .0) (s .1));
+        }
+    go (refused n place later) q h =
+        let d = in-range p n place later q in
+        let m : r ≡ negℤ (pos n) = e ∙ ap hostCount q in
+        record {
+          answer = e;
+          empty = λ z. frames [] empty-legal (sym z);
+          only-empty = λ z. absurd (minus-some n (d .some) (sym m ∙ z));
+          frames = frames;
+          negative = λ none. (n, d .some, d .most, m);
+        }
+
+-- ---- as the code computes it
+
+minus-fits : (n : ℕ) → n < 256 → SFits w32 (negℤ (pos n))
+minus-fits zero h = record { sfits = omega arith }
+minus-fits (suc n) h = record { sfits = omega arith }
+
+minus-is : (n : ℕ) → n < 256 → pos 0 -ℤ toZ w32 n ≡ negℤ (pos n)
+minus-is n h = ap (λ (z : ℤ). pos 0 -ℤ z) (toZ-pos w32 {n = n} (omega arith)) ∙ +ℤ-idl (negℤ (pos n))
+
+pub sub-fits : (n : ℕ) → n < 256 → SFits w32 (pos 0 -ℤ toZ w32 n)
+sub-fits n h = rw (minus-is n h) (minus-fits n h)
+
+module _ (p : List ℕ) (o : Octets p) {s : Contents} (is : s ≡ contentsOf (readOf p)) where
+  pub few : (t : Totals) → s ≡ contents.Whole t → t .frames ≤ 200
+  few t e = let a = accepted p is o t e in omega (arith, ap (λ (y : Totals). y .frames) (a .is), frames-most (a .fs) (a .legal))
+
+  pub count-whole : (t : Totals) → s ≡ contents.Whole t → Counted p (toZ w32 (t .frames))
+  unfolding hostCount
+  count-whole t e =
+      let a = accepted p is o t e in
+      counted p (toZ w32 (t .frames)) o
+      (toZ-pos w32 {n = t .frames} (omega (arith, few t e)) ∙ ap pos (ap (λ (y : Totals). y .frames) (a .is)) ∙ ap hostCount (sym (a .reads)))
+
+  pub count-refused : (x : Refusal) → s ≡ contents.Refused x → x .number < 256 → Counted p (toZ w32 (ofZ w32 (pos 0 -ℤ toZ w32 (x .number))))
+  unfolding hostCount
+  count-refused x e h =
+      let d = denied p is x e in
+      counted p (toZ w32 (ofZ w32 (pos 0 -ℤ toZ w32 (x .number)))) o (toZ-ofZ (sub-fits (x .number) h) ∙ minus-is (x .number) h ∙ ap hostCount (sym (d .reads)))

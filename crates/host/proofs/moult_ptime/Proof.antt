@@ -1,0 +1,30 @@
+use mathlib.Core.Path.{sym, ap, _∙_}
+use Rattle.host.specs.Host.{timeOf}
+use Rattle.clock.specs.Time.{ptimeReport}
+use Rattle.clock.specs.declared.PacketMillis.{PacketMillis}
+use borrow.Author.Needs.{needs}
+use Rattle.host.proofs.moult_ptime.Statement.{statement}
+use Rattle.host.proofs.moult_ptime.Tie as tie
+
+ptime-requires : tie.Need-ptime-requires
+ptime-requires c κs = search needs
+
+enum-known-answer : tie.Need-enum-known-answer
+enum-known-answer c = search needs
+
+enum-known-answer-2 : tie.Need-enum-known-answer-2
+enum-known-answer-2 c = search needs
+
+cast-t7 : tie.Need-cast-t7
+cast-t7 c = search needs
+
+returns : tie.Need-returns
+returns c = ap (λ (y : PacketMillis). timeOf (ptimeReport y)) (sym (c .before .answer .given .1) ∙ c .before .before .before .ptime .ensures)
+
+returns-2 : tie.Need-returns-2
+returns-2 c = ap (λ (y : PacketMillis). timeOf (ptimeReport y)) (sym (c .before .before .answer2 .given .1) ∙ c .before .before .before .before .ptime .ensures)
+
+pub moult-ptime-spec : {M : Type 1} → statement M
+moult-ptime-spec =
+    tie.close
+    (tie.spec ptime-requires enum-known-answer enum-known-answer-2 cast-t7 returns returns-2)

@@ -1,0 +1,160 @@
+// The library as a C host calls it. A slice is a pointer and a length; include/moult.h declares each function.
+ghost use mathlib.Core.Path.{_≡_};
+ghost use Rattle.wire.specs.Walk.{readOf};
+ghost use Rattle.clock.specs.Time.{packetTicks, packetReport, ptimeOf, ptimeReport};
+ghost use Rattle.views.specs.View.{placeOf, augmentationOf, frameOr};
+ghost use Rattle.host.specs.Host.{Counted, HostReads, timeOf, lent, spanOf};
+use clock::PacketMillis;
+use clock::PacketTicks;
+use payload::Contents;
+use payload::Reading;
+use views::Place;
+
+// A reading: document 01's number (0 where accepted) and place, rows and body octets.
+#[repr(C)]
+pub struct MoultReading {
+    pub number: u32,
+    pub place: usize,
+    pub rows: usize,
+    pub octets: usize,
+}
+
+// A time: number and place, and ticks or milliseconds.
+#[repr(C)]
+pub struct MoultTime {
+    pub number: u32,
+    pub place: usize,
+    pub time: usize,
+}
+
+// A part: of the payload, or (where `stand_in` is 1) of the stand-in.
+#[repr(C)]
+pub struct MoultPart {
+    pub stand_in: u32,
+    pub start: usize,
+    pub length: usize,
+}
+
+// The host's count: the number of frames, or minus the number of the refusal. Only an empty payload is 0.
+#[no_mangle]
+pub extern "C" fn moult_count(payload: &[u8]) -> i32
+    ensures { λ r. ⌜ Counted (now (payload .entry)) r ⌝ }
+{
+    let seen = payload::survey(payload);
+    match seen {
+        Contents::Refused(refusal) => 0 - (refusal.number as i32),
+        Contents::Whole(totals) => totals.frames as i32,
+    }
+}
+
+// Reads a payload into rows and bodies.
+#[no_mangle]
+pub extern "C" fn moult_read(payload: &[u8], rows: &mut [u16], bodies: &mut [u8]) -> MoultReading
+    ensures { λ r. ⌜ HostReads (now (payload .entry)) (now (rows .entry)) (now (bodies .entry)) r (now (rows .exit)) (now (bodies .exit)) ⌝ }
+{
+    let answer = payload::read(payload, rows, bodies);
+    match answer {
+        Reading::Read(n, m) => MoultReading {
+            number: 0,
+            place: 0,
+            rows: n,
+            octets: m,
+        },
+        Reading::Refused(refusal) => MoultReading {
+            number: refusal.number as u32,
+            place: refusal.place,
+            rows: 0,
+            octets: 0,
+        },
+    }
+}
+
+// The ticks of a payload's frames.
+#[no_mangle]
+pub extern "C" fn moult_packet_ticks(payload: &[u8]) -> MoultTime
+    ensures { λ r. ⌜ r ≡ timeOf (packetReport (packetTicks (readOf (now (payload .entry))))) ⌝ }
+{
+    let answer = clock::packet_ticks(payload);
+    match answer {
+        PacketTicks::Lasts(ticks) => MoultTime {
+            number: 0,
+            place: 0,
+            time: ticks.0,
+        },
+        PacketTicks::Refused(refusal) => MoultTime {
+            number: refusal.number as u32,
+            place: refusal.place,
+            time: 0,
+        },
+    }
+}
+
+// The ptime of a number of frames at a rate, in milliseconds.
+#[no_mangle]
+pub extern "C" fn moult_ptime(rate: u32, frames: usize) -> MoultTime
+    ensures { λ r. ⌜ r ≡ timeOf (ptimeReport (ptimeOf rate frames)) ⌝ }
+{
+    let answer = clock::ptime(rate, frames);
+    match answer {
+        PacketMillis::Lasts(millis) => MoultTime {
+            number: 0,
+            place: 0,
+            time: millis.0,
+        },
+        PacketMillis::Refused(refusal) => MoultTime {
+            number: refusal.number as u32,
+            place: refusal.place,
+            time: 0,
+        },
+    }
+}
+
+// Where a row's augmentation stands in the payload; start 0 and length 0 where there is none.
+#[no_mangle]
+pub extern "C" fn moult_augmentation(payload: &[u8], row: usize) -> MoultPart
+    ensures { λ r. ⌜ r ≡ spanOf (augmentationOf (placeOf (readOf (now (payload .entry))) row) (lent 0 (now (payload .entry)))) ⌝ }
+{
+    let place = views::locate(payload, row);
+    match place {
+        Place::Missing => MoultPart {
+            stand_in: 0,
+            start: 0,
+            length: 0,
+        },
+        Place::At(start, shape) => {
+            let tc = shape.tc;
+            if tc == 0 {
+                return MoultPart {
+                    stand_in: 0,
+                    start: 0,
+                    length: 0,
+                };
+            }
+            MoultPart {
+                stand_in: 0,
+                start: start + shape.size,
+                length: tc,
+            }
+        }
+    }
+}
+
+// Where a row's own octets stand in the payload, or the whole stand-in, whose octets are never looked at.
+#[no_mangle]
+pub extern "C" fn moult_frame_or(payload: &[u8], row: usize, stand_in: &[u8]) -> MoultPart
+    ensures { λ r. ⌜ r ≡ spanOf (frameOr (placeOf (readOf (now (payload .entry))) row) (lent 0 (now (payload .entry))) (lent 1 (now («stand_in» .entry)))) ⌝ }
+{
+    let place = views::locate(payload, row);
+    match place {
+        Place::Missing => MoultPart {
+            stand_in: 1,
+            start: 0,
+            length: stand_in.len(),
+        },
+        Place::At(start, shape) => MoultPart {
+            stand_in: 0,
+            start,
+            length: shape.wire,
+        },
+    }
+}
