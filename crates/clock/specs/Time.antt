@@ -6,7 +6,7 @@ use Prim.Native.Nat.{ℕ, _+_, _*_, _/_}
 use lib.Dec.{eqb, ltb}
 use Rattle.refusal.specs.Numbers.{unknownKind}
 use Rattle.refusal.specs.declared.Refusal.{Refusal}
-use Rattle.wire.specs.Frame.{Frame, Legal, octetsOf, ticksOf}
+use Rattle.wire.specs.Frame.{Frame, Legal, octetsOf, ticksOf, ticksOfRate}
 use Rattle.wire.specs.Walk.{Walk, at, refused, readOf}
 use Rattle.clock.specs.declared.Ticks.{Ticks}
 use Rattle.clock.specs.declared.Millis.{Millis}
@@ -14,10 +14,6 @@ use Rattle.clock.specs.declared.PacketTicks.{PacketTicks}
 use Rattle.clock.specs.declared.PacketTicks.the-variants as packet
 use Rattle.clock.specs.declared.PacketMillis.{PacketMillis}
 use Rattle.clock.specs.declared.PacketMillis.the-variants as settings
-
--- "A coder frame lasts 180, 540 or 720 ticks at 2400, 1200, 600"; no other number is a rate
-unfoldable pub ticksOfRate : ℕ → ℕ
-ticksOfRate r = cond (eqb r 2400) 180 (cond (eqb r 1200) 540 (cond (eqb r 600) 720 0))
 
 -- what a walk's payload lasts: the sum over its frames; "A refused payload gives its refusal"
 abbrev pub packetTicks : Walk → PacketTicks

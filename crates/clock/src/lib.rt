@@ -1,7 +1,6 @@
 // Time: ticks of 1/8000 second on the clock, milliseconds in settings. The two are types of their own and never mix.
 ghost use mathlib.Core.Path.{_≡_};
-ghost use Prim.Native.Nat.{_≤_};
-ghost use Rattle.clock.specs.Time.{ticksOfRate, ptimeOf, PacketTime};
+ghost use Rattle.clock.specs.Time.{ptimeOf, PacketTime};
 use payload::Contents;
 use refusal::Refusal;
 
@@ -34,22 +33,6 @@ pub fn packet_ticks(payload: &[u8]) -> PacketTicks
     }
 }
 
-// The ticks of a coder frame at a rate; 0 at any other number.
-fn ticks_of_rate(rate: u32) -> usize
-    ensures { λ r. ⌜ r ≡ ticksOfRate rate ⌝ }
-{
-    if rate == 2400 {
-        return 180;
-    }
-    if rate == 1200 {
-        return 540;
-    }
-    if rate == 600 {
-        return 720;
-    }
-    0
-}
-
 fn unknown() -> PacketMillis
     ensures { λ r. ⌜ r ≡ PacketMillis.Refused (record { number = 12; place = 0 }) ⌝ }
 {
@@ -63,7 +46,7 @@ fn unknown() -> PacketMillis
 pub fn ptime(rate: u32, frames: usize) -> PacketMillis
     ensures { λ r. ⌜ r ≡ ptimeOf rate frames ⌝ }
 {
-    let ticks = ticks_of_rate(rate);
+    let ticks = wire::ticks_of_rate(rate);
     if ticks == 0 {
         return unknown();
     }

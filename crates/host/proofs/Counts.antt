@@ -14,11 +14,11 @@ use Rattle.wire.specs.Walk.{Walk, at, refused, readOf}
 use Rattle.wire.proofs.Sound.{sound, Ended, read-ends}
 use Rattle.wire.proofs.Complete.{unique}
 use Rattle.wire.proofs.Ranges.{InRange, in-range, frames-most}
-use Rattle.payload.specs.Reading.{contentsOf}
-use Rattle.payload.specs.declared.Totals.{Totals}
-use Rattle.payload.specs.declared.Contents.{Contents}
-use Rattle.payload.specs.declared.Contents.the-variants as contents
-use Rattle.payload.proofs.Seen.{reads-it, none-gives, accepted, denied}
+use Rattle.payload.specs.Reading.{walkedOf}
+use Rattle.payload.specs.declared.Extent.{Extent}
+use Rattle.payload.specs.declared.Walked.{Walked}
+use Rattle.payload.specs.declared.Walked.the-variants as walked
+use Rattle.payload.proofs.Seen.{reads-it, went, stopped}
 use Rattle.host.specs.Host.{hostCount, Counted}
 
 pub empty-legal : Legal []
@@ -77,19 +77,19 @@ minus-is n h = ap (λ (z : ℤ). pos 0 -ℤ z) (toZ-pos w32 {n = n} (omega arith
 pub sub-fits : (n : ℕ) → n < 256 → SFits w32 (pos 0 -ℤ toZ w32 n)
 sub-fits n h = rw (minus-is n h) (minus-fits n h)
 
-module _ (p : List ℕ) (o : Octets p) {s : Contents} (is : s ≡ contentsOf (readOf p)) where
-  pub few : (t : Totals) → s ≡ contents.Whole t → t .frames ≤ 200
-  few t e = let a = accepted p is o t e in omega (arith, ap (λ (y : Totals). y .frames) (a .is), frames-most (a .fs) (a .legal))
+module _ (p : List ℕ) (o : Octets p) {s : Walked} (is : s ≡ walkedOf (readOf p)) where
+  pub few : (x : Extent) → s ≡ walked.Whole x → x .frames ≤ 200
+  few x e = let w = went p o is x e in omega (arith, ap (λ (y : Extent). y .frames) (w .1), frames-most (w .0 .fs) (w .0 .legal))
 
-  pub count-whole : (t : Totals) → s ≡ contents.Whole t → Counted p (toZ w32 (t .frames))
+  pub count-whole : (x : Extent) → s ≡ walked.Whole x → Counted p (toZ w32 (x .frames))
   unfolding hostCount
-  count-whole t e =
-      let a = accepted p is o t e in
-      counted p (toZ w32 (t .frames)) o
-      (toZ-pos w32 {n = t .frames} (omega (arith, few t e)) ∙ ap pos (ap (λ (y : Totals). y .frames) (a .is)) ∙ ap hostCount (sym (a .reads)))
+  count-whole x e =
+      let w = went p o is x e in
+      counted p (toZ w32 (x .frames)) o
+      (toZ-pos w32 {n = x .frames} (omega (arith, few x e)) ∙ ap pos (ap (λ (y : Extent). y .frames) (w .1)) ∙ ap hostCount (sym (w .0 .reads)))
 
-  pub count-refused : (x : Refusal) → s ≡ contents.Refused x → x .number < 256 → Counted p (toZ w32 (ofZ w32 (pos 0 -ℤ toZ w32 (x .number))))
+  pub count-refused : (x : Refusal) → s ≡ walked.Refused x → x .number < 256 → Counted p (toZ w32 (ofZ w32 (pos 0 -ℤ toZ w32 (x .number))))
   unfolding hostCount
   count-refused x e h =
-      let d = denied p is x e in
+      let d = stopped p o is x e in
       counted p (toZ w32 (ofZ w32 (pos 0 -ℤ toZ w32 (x .number)))) o (toZ-ofZ (sub-fits (x .number) h) ∙ minus-is (x .number) h ∙ ap hostCount (sym (d .reads)))

@@ -6,8 +6,8 @@ ghost use Rattle.views.specs.View.{placeOf, augmentationOf, frameOr};
 ghost use Rattle.host.specs.Host.{Counted, HostReads, timeOf, lent, spanOf};
 use clock::PacketMillis;
 use clock::PacketTicks;
-use payload::Contents;
 use payload::Reading;
+use payload::Walked;
 use views::Place;
 
 // A reading: document 01's number (0 where accepted) and place, rows and body octets.
@@ -40,10 +40,10 @@ pub struct MoultPart {
 pub extern "C" fn moult_count(payload: &[u8]) -> i32
     ensures { λ r. ⌜ Counted (now (payload .entry)) r ⌝ }
 {
-    let seen = payload::survey(payload);
-    match seen {
-        Contents::Refused(refusal) => 0 - (refusal.number as i32),
-        Contents::Whole(totals) => totals.frames as i32,
+    let walked = payload::walk(payload);
+    match walked {
+        Walked::Refused(refusal) => 0 - (refusal.number as i32),
+        Walked::Whole(extent) => extent.frames as i32,
     }
 }
 

@@ -11,15 +11,14 @@ use Rattle.wire.specs.Frame.{Frame, Octets, Legal, octetsOf, rowsOf, bodiesOf}
 use Rattle.wire.specs.Walk.{Walk, at, refused, readOf}
 use Rattle.wire.proofs.Tables.{below-or}
 use Rattle.wire.proofs.Complete.{unique}
-use Rattle.wire.proofs.Sound.{sound, Ended, read-ends}
-use Rattle.wire.proofs.Ranges.{InRange, in-range, frames-most}
-use Rattle.payload.specs.Reading.{refuse, contentsOf, Outcome, kept, handedOut, settle, readInto, Report, reportOf}
+use Rattle.wire.proofs.Ranges.{frames-most}
+use Rattle.payload.specs.Reading.{refuse, walkedOf, Outcome, kept, handedOut, settle, readInto, Report, reportOf}
 use Rattle.payload.specs.Promise.{Room, HandedBack, Unchanged, Demand, Reads}
 use Rattle.payload.specs.Filling.{Known}
-use Rattle.payload.proofs.Seen.{Accepted, accepted, denied, reads-it}
-use Rattle.payload.specs.declared.Totals.{Totals}
-use Rattle.payload.specs.declared.Contents.{Contents}
-use Rattle.payload.specs.declared.Contents.the-variants as contents
+use Rattle.payload.proofs.Seen.{View as Seen, over, not, view as seen, Accepted, went, stopped, reads-it}
+use Rattle.payload.specs.declared.Extent.{Extent}
+use Rattle.payload.specs.declared.Walked.{Walked}
+use Rattle.payload.specs.declared.Walked.the-variants as walked
 use Rattle.payload.specs.declared.Reading.{Reading}
 use Rattle.payload.specs.declared.Reading.the-variants as reading
 
@@ -53,18 +52,17 @@ module _ (p r b : List ℕ) where
     no : (n place : ℕ) → 1 ≤ n → x ≡ kept n place r b → View x
 
   view : Octets p → View (readInto p r b)
-  view o = go (readOf p) refl (read-ends p)
+  view o = go (seen p o) refl
     where
-      go : (w : Walk) → readOf p ≡ w → Ended w → View (readInto p r b)
-      go (refused n place later) e h = no n place (in-range p n place later e .some) (ap (settle r b) e ∙ settle-refused r b n place later)
-      go (at (suc u) fs) e h = absurd h
-      go (at zero fs) e h = room (sound p fs o e) (below-or (length r / 2) (length fs)) (below-or (length b) (length (bodiesOf fs)))
-        where
-          room : Legal fs × (octetsOf fs ≡ p) → (length r / 2 < length fs) ⊎ (length fs ≤ length r / 2)
-              → (length b < length (bodiesOf fs)) ⊎ (length (bodiesOf fs) ≤ length b) → View (readInto p r b)
-          room s (inl x) y = no 9 (length fs) (omega arith) (ap (settle r b) e ∙ settle-few r b 0 fs x)
-          room s (inr x) (inl y) = no 10 (length (bodiesOf fs)) (omega arith) (ap (settle r b) e ∙ settle-short r b 0 fs x y)
-          room s (inr x) (inr y) = let h : Room fs r b = (omega arith, y) in out fs (s .0) (s .1) h (hands-out fs (s .0) (s .1) h)
+      room : (a : Accepted p) → (length r / 2 < length (a .fs)) ⊎ (length (a .fs) ≤ length r / 2)
+          → (length b < length (bodiesOf (a .fs))) ⊎ (length (bodiesOf (a .fs)) ≤ length b) → View (readInto p r b)
+      room a (inl x) y = no 9 (length (a .fs)) (omega arith) (ap (settle r b) (a .reads) ∙ settle-few r b 0 (a .fs) x)
+      room a (inr x) (inl y) = no 10 (length (bodiesOf (a .fs))) (omega arith) (ap (settle r b) (a .reads) ∙ settle-short r b 0 (a .fs) x y)
+      room a (inr x) (inr y) = let h : Room (a .fs) r b = (omega arith, y) in out (a .fs) (a .legal) (a .gives) h (hands-out (a .fs) (a .legal) (a .gives) h)
+
+      go : {w : Walk} → Seen p w → readOf p ≡ w → View (readInto p r b)
+      go (not x d) e = no (x .number) (x .place) (d .range .some) (ap (settle r b) (d .reads) ∙ settle-refused r b (x .number) (x .place) (d .later))
+      go (over a) e = room a (below-or (length r / 2) (length (a .fs))) (below-or (length b) (length (bodiesOf (a .fs))))
 
   abbrev Holds : Outcome → Type 0
   Holds x = Demand p r b (reportOf (x .answer)) (x .rows) (x .bodies)
@@ -130,39 +128,39 @@ module _ (p r b : List ℕ) where
 
   -- ---- the code's branches: `s` is what the survey answered
 
-  module _ (o : Octets p) {s : Contents} (is : s ≡ contentsOf (readOf p)) where
-    pub read-refused : (x : Refusal) → s ≡ contents.Refused x → Reads p r b (reading.Refused x) r b
+  module _ (o : Octets p) {s : Walked} (is : s ≡ walkedOf (readOf p)) where
+    pub read-refused : (x : Refusal) → s ≡ walked.Refused x → Reads p r b (reading.Refused x) r b
     read-refused x e =
-        let d = denied p is x e in
+        let d = stopped p o is x e in
         promised o (kept (x .number) (x .place) r b) (ap (settle r b) (d .reads) ∙ settle-refused r b (x .number) (x .place) (d .later)) refl refl refl
 
-    module _ (t : Totals) (e : s ≡ contents.Whole t) where
-      w : Accepted p t
-      w = accepted p is o t e
+    module _ (x : Extent) (e : s ≡ walked.Whole x) where
+      abbrev w : Accepted p
+      w = went p o is x e .0
 
-      frames : t .frames ≡ length (w .fs)
-      frames = ap (λ (y : Totals). y .frames) (w .is)
+      frames : x .frames ≡ length (w .fs)
+      frames = ap (λ (y : Extent). y .frames) (went p o is x e .1)
 
-      octets : t .octets ≡ length (bodiesOf (w .fs))
-      octets = ap (λ (y : Totals). y .octets) (w .is)
+      octets : x .octets ≡ length (bodiesOf (w .fs))
+      octets = ap (λ (y : Extent). y .octets) (went p o is x e .1)
 
-      pub read-few : length r / 2 < t .frames → Reads p r b (reading.Refused (refuse 9 (t .frames))) r b
+      pub read-few : length r / 2 < x .frames → Reads p r b (reading.Refused (refuse 9 (x .frames))) r b
       read-few h =
           promised o (kept 9 (length (w .fs)) r b) (ap (settle r b) (w .reads) ∙ settle-few r b 0 (w .fs) (omega (arith, frames)))
           (ap (λ (n : ℕ). reading.Refused (refuse 9 n)) frames) refl refl
 
-      pub read-short : t .frames ≤ length r / 2 → length b < t .octets → Reads p r b (reading.Refused (refuse 10 (t .octets))) r b
+      pub read-short : x .frames ≤ length r / 2 → length b < x .octets → Reads p r b (reading.Refused (refuse 10 (x .octets))) r b
       read-short h l =
           promised o (kept 10 (length (bodiesOf (w .fs))) r b)
           (ap (settle r b) (w .reads) ∙ settle-short r b 0 (w .fs) (omega (arith, frames)) (omega (arith, octets)))
           (ap (λ (n : ℕ). reading.Refused (refuse 10 n)) octets) refl refl
 
-      pub read-known : t .frames ≤ length r / 2 → t .octets ≤ length b → Known p (t .frames) (t .octets) (length r) (length b)
+      pub read-known : x .frames ≤ length r / 2 → x .octets ≤ length b → Known p (x .frames) (x .octets) (length r) (length b)
       read-known h l = record { fs = w .fs; reads = w .reads; frames = frames; octets = octets; rows = omega arith; bodies = l }
 
-      pub read-right : t .frames ≤ length r / 2 → t .octets ≤ length b → {r′ b′ : List ℕ} → r′ ≡ readInto p r b .rows → b′ ≡ readInto p r b .bodies
-          → Reads p r b (reading.Read (t .frames) (t .octets)) r′ b′
+      pub read-right : x .frames ≤ length r / 2 → x .octets ≤ length b → {r′ b′ : List ℕ} → r′ ≡ readInto p r b .rows → b′ ≡ readInto p r b .bodies
+          → Reads p r b (reading.Read (x .frames) (x .octets)) r′ b′
       read-right h l er eb =
           let q : readInto p r b ≡ handedOut (w .fs) r b = ap (settle r b) (w .reads) ∙ settle-right r b 0 (w .fs) (omega (arith, frames)) (omega (arith, octets)) in
           promised o (readInto p r b) refl
-          (ap (λ (n : ℕ). reading.Read n (t .octets)) frames ∙ ap (reading.Read (length (w .fs))) octets ∙ ap (λ (x : Outcome). x .answer) (sym q)) er eb
+          (ap (λ (n : ℕ). reading.Read n (x .octets)) frames ∙ ap (reading.Read (length (w .fs))) octets ∙ ap (λ (y : Outcome). y .answer) (sym q)) er eb

@@ -15,7 +15,7 @@ use Rattle.wire.proofs.Ended.{Whole}
 use Rattle.wire.proofs.Sound.{length-base}
 use Rattle.payload.specs.Reading.{settle, readInto}
 use Rattle.payload.specs.Filling.{put, bodyAt, Known}
-use Rattle.payload.proofs.Surveyed.{Sized, sized}
+use Rattle.payload.proofs.Held.{Sized, sized}
 use Rattle.payload.proofs.Onward.{Onward, onward, onward-bad, onward-shape, onward-whole, grows, read-run}
 use Rattle.payload.proofs.Stored.{rows-back, body-back, length-put}
 

@@ -1,8 +1,9 @@
 pub mod Copied
-pub mod Surveyed
+pub mod Held
 pub mod Seen
 pub mod Onward
 pub mod Stored
 pub mod Filled
 pub mod Demanded
 pub mod Bench
+pub mod Timing

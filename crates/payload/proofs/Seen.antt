@@ -1,5 +1,5 @@
--- What the survey's answer says of the payload, by cases: for all who ask the survey.
-use mathlib.Core.Path.{_≡_, refl, sym, ap, _∙_}
+-- What the walk's and the survey's answers say of the payload, by cases: for all who ask them.
+use mathlib.Core.Path.{_≡_, refl, sym, ap, _∙_, subst}
 use mathlib.Core.List.{List}
 use Prim.Native.Nat.{ℕ, zero, suc}
 use native.Mathlib.Omega.{arith}
@@ -9,7 +9,10 @@ use Rattle.wire.specs.Walk.{Walk, at, refused, readOf}
 use Rattle.wire.proofs.Complete.{complete}
 use Rattle.wire.proofs.Sound.{sound, Ended, read-ends}
 use Rattle.wire.proofs.Ranges.{InRange, in-range}
-use Rattle.payload.specs.Reading.{refuse, totals, contentsOf}
+use Rattle.payload.specs.Reading.{refuse, extent, walkedOf, totals, contentsOf}
+use Rattle.payload.specs.declared.Extent.{Extent}
+use Rattle.payload.specs.declared.Walked.{Walked}
+use Rattle.payload.specs.declared.Walked.the-variants as walked
 use Rattle.payload.specs.declared.Totals.{Totals}
 use Rattle.payload.specs.declared.Contents.{Contents}
 use Rattle.payload.specs.declared.Contents.the-variants as contents
@@ -25,13 +28,12 @@ differ e = let z : _≡_ {A = ℕ} 0 1 = cc in omega arith
 pub none-gives : (p : List ℕ) {n place : ℕ} {later : List Frame} → readOf p ≡ refused n place later → (fs : List Frame) → Legal fs → octetsOf fs ≡ p → ⊥
 none-gives p q fs l e = differ (sym q ∙ reads-it p fs l e)
 
--- a payload that a legal sequence fs gives, whose totals are t
-pub record Accepted (p : List ℕ) (t : Totals) : Type 0 where
+-- a payload that the legal sequence fs gives
+pub record Accepted (p : List ℕ) : Type 0 where
   pub fs : List Frame
   pub reads : readOf p ≡ at 0 fs
   pub legal : Legal fs
   pub gives : octetsOf fs ≡ p
-  pub is : t ≡ totals fs
 
 -- a payload that the walk refuses, by the refusal x
 pub record Denied (p : List ℕ) (x : Refusal) : Type 0 where
@@ -39,32 +41,49 @@ pub record Denied (p : List ℕ) (x : Refusal) : Type 0 where
   pub reads : readOf p ≡ refused (x .number) (x .place) later
   pub range : InRange (x .number) (x .place)
 
-module _ (p : List ℕ) {s : Contents} (is : s ≡ contentsOf (readOf p)) where
-  pub accepted : Octets p → (t : Totals) → s ≡ contents.Whole t → Accepted p t
-  accepted o t e = go (readOf p) refl (read-ends p)
+-- what a walk came to that went over the frames fs
+pub data View (p : List ℕ) : Walk → Type 0 where
+  over : (a : Accepted p) → View p (at 0 (a .fs))
+  not : (x : Refusal) (d : Denied p x) → View p (refused (x .number) (x .place) (d .later))
+
+pub view : (p : List ℕ) → Octets p → View p (readOf p)
+view p o = go (readOf p) refl (read-ends p)
+  where
+    go : (w : Walk) → readOf p ≡ w → Ended w → View p w
+    go (refused n place later) q h = not (refuse n place) (record { later = later; reads = q; range = in-range p n place later q })
+    go (at (suc u) fs) q h = absurd h
+    go (at zero fs) q h = let w = sound p fs o q in over (record { fs = fs; reads = q; legal = w .0; gives = w .1 })
+
+-- ---- the walk's answer
+
+module _ (p : List ℕ) (o : Octets p) {s : Walked} (is : s ≡ walkedOf (readOf p)) where
+  pub went : (x : Extent) → s ≡ walked.Whole x → (a : Accepted p) × (x ≡ extent (a .fs))
+  went x e = go (view p o) (sym is ∙ e)
     where
-      go : (w : Walk) → readOf p ≡ w → Ended w → Accepted p t
-      go (refused n place later) q h =
-          let c : contents.Refused (refuse n place) ≡ contents.Whole t = ap contentsOf (sym q) ∙ sym is ∙ e in
-          absurd (let z : _≡_ {A = ℕ} 0 1 = cc in omega arith)
-      go (at (suc u) fs) q h = absurd h
-      go (at zero fs) q h =
-          let c : contents.Whole (totals fs) ≡ contents.Whole t = ap contentsOf (sym q) ∙ sym is ∙ e in
-          let f : totals fs ≡ t = cc in
-          let w = sound p fs o q in
-          record { fs = fs; reads = q; legal = w .0; gives = w .1; is = sym f }
+      go : {w : Walk} → View p w → walkedOf w ≡ walked.Whole x → (a : Accepted p) × (x ≡ extent (a .fs))
+      go (over a) q = let f : extent (a .fs) ≡ x = cc in (a, sym f)
+      go (not y d) q = absurd (let z : _≡_ {A = ℕ} 0 1 = cc in omega arith)
+
+  pub stopped : (x : Refusal) → s ≡ walked.Refused x → Denied p x
+  stopped x e = go (view p o) (sym is ∙ e)
+    where
+      go : {w : Walk} → View p w → walkedOf w ≡ walked.Refused x → Denied p x
+      go (over a) q = absurd (let z : _≡_ {A = ℕ} 0 1 = cc in omega arith)
+      go (not y d) q = let f : y ≡ x = cc in subst (Denied p) f d
+
+-- ---- the survey's answer
+
+module _ (p : List ℕ) (o : Octets p) {s : Contents} (is : s ≡ contentsOf (readOf p)) where
+  pub accepted : (t : Totals) → s ≡ contents.Whole t → (a : Accepted p) × (t ≡ totals (a .fs))
+  accepted t e = go (view p o) (sym is ∙ e)
+    where
+      go : {w : Walk} → View p w → contentsOf w ≡ contents.Whole t → (a : Accepted p) × (t ≡ totals (a .fs))
+      go (over a) q = let f : totals (a .fs) ≡ t = cc in (a, sym f)
+      go (not y d) q = absurd (let z : _≡_ {A = ℕ} 0 1 = cc in omega arith)
 
   pub denied : (x : Refusal) → s ≡ contents.Refused x → Denied p x
-  denied x e = go (readOf p) refl
+  denied x e = go (view p o) (sym is ∙ e)
     where
-      go : (w : Walk) → readOf p ≡ w → Denied p x
-      go (at u fs) q =
-          let c : contents.Whole (totals fs) ≡ contents.Refused x = ap contentsOf (sym q) ∙ sym is ∙ e in
-          absurd (let z : _≡_ {A = ℕ} 0 1 = cc in omega arith)
-      go (refused n place later) q =
-          let c : contents.Refused (refuse n place) ≡ contents.Refused x = ap contentsOf (sym q) ∙ sym is ∙ e in
-          let f : refuse n place ≡ x = cc in
-          let a : n ≡ x .number = ap (λ (y : Refusal). y .number) f in
-          let b : place ≡ x .place = ap (λ (y : Refusal). y .place) f in
-          let d : readOf p ≡ refused (x .number) (x .place) later = q ∙ ap (λ (m : ℕ). refused m place later) a ∙ ap (λ (m : ℕ). refused (x .number) m later) b in
-          record { later = later; reads = d; range = in-range p (x .number) (x .place) later d }
+      go : {w : Walk} → View p w → contentsOf w ≡ contents.Refused x → Denied p x
+      go (over a) q = absurd (let z : _≡_ {A = ℕ} 0 1 = cc in omega arith)
+      go (not y d) q = let f : y ≡ x = cc in subst (Denied p) f d

@@ -7,7 +7,10 @@ use lib.ListN.{length, drop}
 use Rattle.refusal.specs.Numbers.{shortList, shortBuffer}
 use Rattle.refusal.specs.declared.Refusal.{Refusal}
 use Rattle.wire.specs.Frame.{Frame, rowsOf, bodiesOf, ticksOf}
-use Rattle.wire.specs.Walk.{Walk, at, refused, readOf}
+use Rattle.wire.specs.Walk.{Walk, at, refused, readOf, seen}
+use Rattle.payload.specs.declared.Extent.{Extent}
+use Rattle.payload.specs.declared.Walked.{Walked}
+use Rattle.payload.specs.declared.Walked.the-variants as walked
 use Rattle.payload.specs.declared.Totals.{Totals}
 use Rattle.payload.specs.declared.Contents.{Contents}
 use Rattle.payload.specs.declared.Contents.the-variants as contents
@@ -18,11 +21,25 @@ use Rattle.payload.specs.declared.Reading.the-variants as reading
 abbrev pub refuse : ℕ → ℕ → Refusal
 refuse n place = record { number = n; place = place }
 
+-- what the walk comes to: frames, body octets, and the coder frames' rate
+abbrev pub extent : List Frame → Extent
+extent fs = record { frames = length fs; octets = length (bodiesOf fs); rate = seen fs }
+
+-- what a walk comes to, in numbers
+abbrev pub walkedOf : Walk → Walked
+walkedOf (at u fs) = walked.Whole (extent fs)
+walkedOf (refused n place later) = walked.Refused (refuse n place)
+
+-- the ticks of what a walk read
+abbrev pub ticksIn : Walk → ℕ
+ticksIn (at u fs) = ticksOf fs
+ticksIn (refused n place later) = 0
+
 -- what a sequence holds in all: frames, body octets, ticks
 abbrev pub totals : List Frame → Totals
 totals fs = record { frames = length fs; octets = length (bodiesOf fs); ticks = ticksOf fs }
 
--- what a walk comes to, in numbers
+-- the same of a walk
 abbrev pub contentsOf : Walk → Contents
 contentsOf (at u fs) = contents.Whole (totals fs)
 contentsOf (refused n place later) = contents.Refused (refuse n place)

@@ -4,14 +4,27 @@ ghost use Prim.Native.Nat.{_+_, _*_, _≤_, _<_};
 ghost use lib.ListN.{length, set, drop};
 ghost use lib.Seq.{paste};
 ghost use Rattle.wire.specs.Walk.{readOf};
-ghost use Rattle.payload.specs.Reading.{contentsOf, readInto};
-ghost use Rattle.payload.specs.Filling.{Known, BodyFits, put, bodyAt};
+ghost use Rattle.payload.specs.Reading.{walkedOf, contentsOf, ticksIn, readInto};
+ghost use Rattle.payload.specs.Filling.{Known, Went, BodyFits, put, bodyAt};
 ghost use Rattle.payload.specs.Promise.{Reads};
 use refusal::Refusal;
 use wire::Found;
 use wire::Shape;
 
 const MOST_OCTETS: usize = 1400;
+
+// What the walk over a payload comes to: frames, octets of their bodies, and the coder frames' rate (0: there is none).
+pub struct Extent {
+    pub frames: usize,
+    pub octets: usize,
+    pub rate: u32,
+}
+
+// An empty payload is whole and holds no frames; a refused one is the other case.
+pub enum Walked {
+    Whole(Extent),
+    Refused(Refusal),
+}
 
 // What a payload holds in all.
 pub struct Totals {
@@ -20,7 +33,7 @@ pub struct Totals {
     pub ticks: usize,
 }
 
-// What the walk over a payload comes to: an empty payload holds no frames, and a refused one is the other case.
+// The same with ticks.
 pub enum Contents {
     Whole(Totals),
     Refused(Refusal),
@@ -32,26 +45,26 @@ pub enum Reading {
     Refused(Refusal),
 }
 
-// The walk, from the payload's end to its front: all that is asked of a payload is asked here first.
-pub fn survey(payload: &[u8]) -> Contents
-    ensures { λ r. ⌜ r ≡ contentsOf (readOf (now (payload .entry))) ⌝ }
+// The walk, from the payload's end to its front: all that is asked of a payload is asked here first. Octets that are no
+// part of a count are octets of a body, so only those of the counts are added up.
+pub fn walk(payload: &[u8]) -> Walked
+    ensures { λ r. ⌜ r ≡ walkedOf (readOf (now (payload .entry))) ⌝ }
 {
     if MOST_OCTETS < payload.len() {
-        return Contents::Refused(Refusal {
+        return Walked::Refused(Refusal {
             number: refusal::TOO_LONG,
             place: MOST_OCTETS,
         });
     }
     let mut unread = payload.len();
     let mut frames: usize = 0;
-    let mut octets: usize = 0;
-    let mut ticks: usize = 0;
+    let mut counts: usize = 0;
     let mut rate: u32 = 0;
     while 0 < unread {
         let found = wire::step(&payload[..unread], frames, rate);
         match found {
             Found::Bad(number) => {
-                return Contents::Refused(Refusal {
+                return Walked::Refused(Refusal {
                     number,
                     place: unread,
                 });
@@ -59,17 +72,50 @@ pub fn survey(payload: &[u8]) -> Contents
             Found::Got(shape) => {
                 unread -= shape.wire;
                 frames += 1;
-                octets += shape.size + shape.tc;
-                ticks += shape.ticks;
+                counts += shape.count;
                 rate = shape.rate;
             }
         }
     }
-    Contents::Whole(Totals {
+    Walked::Whole(Extent {
         frames,
-        octets,
-        ticks,
+        octets: payload.len() - counts,
+        rate,
     })
+}
+
+// The ticks of a payload that the walk went over: those of each coder frame, of which comfort noise is none.
+fn ticks_in(payload: &[u8], extent: Extent) -> usize
+    requires { ⌜ Went (now payload) extent ⌝ }
+    ensures { λ r. ⌜ r ≡ ticksIn (readOf (now (payload .entry))) ⌝ }
+{
+    let each = wire::ticks_of_rate(extent.rate);
+    if each == 0 {
+        return 0;
+    }
+    let x = payload[payload.len() - 1];
+    if x < 160 {
+        return each * extent.frames;
+    }
+    if x < 192 {
+        return each * (extent.frames - 1);
+    }
+    each * extent.frames
+}
+
+// What the payload holds, its ticks with it.
+pub fn survey(payload: &[u8]) -> Contents
+    ensures { λ r. ⌜ r ≡ contentsOf (readOf (now (payload .entry))) ⌝ }
+{
+    let walked = walk(payload);
+    match walked {
+        Walked::Refused(refusal) => Contents::Refused(refusal),
+        Walked::Whole(extent) => Contents::Whole(Totals {
+            frames: extent.frames,
+            octets: extent.octets,
+            ticks: ticks_in(payload, extent),
+        }),
+    }
 }
 
 // Copies len octets of src, from an index on, into dst at an index.
@@ -166,12 +212,12 @@ fn fill(payload: &[u8], rows: &mut [u16], bodies: &mut [u8], n: usize, m: usize)
 pub fn read(payload: &[u8], rows: &mut [u16], bodies: &mut [u8]) -> Reading
     ensures { λ r. ⌜ Reads (now (payload .entry)) (now (rows .entry)) (now (bodies .entry)) r (now (rows .exit)) (now (bodies .exit)) ⌝ }
 {
-    let seen = survey(payload);
-    match seen {
-        Contents::Refused(refusal) => Reading::Refused(refusal),
-        Contents::Whole(totals) => {
-            let n = totals.frames;
-            let m = totals.octets;
+    let walked = walk(payload);
+    match walked {
+        Walked::Refused(refusal) => Reading::Refused(refusal),
+        Walked::Whole(extent) => {
+            let n = extent.frames;
+            let m = extent.octets;
             if rows.len() / 2 < n {
                 return Reading::Refused(Refusal {
                     number: refusal::SHORT_LIST,

@@ -14,12 +14,12 @@ use Rattle.wire.proofs.Tables.{size-pos}
 use Rattle.wire.proofs.Complete.{stay}
 use Rattle.wire.proofs.Ended.{Whole, Wholes, last-says}
 use Rattle.wire.proofs.Sound.{run-refused}
-use Rattle.payload.specs.Reading.{contentsOf}
-use Rattle.payload.specs.declared.Totals.{Totals}
-use Rattle.payload.specs.declared.Contents.{Contents}
-use Rattle.payload.specs.declared.Contents.the-variants as contents
-use Rattle.payload.proofs.Seen.{differ, accepted, denied}
-use Rattle.payload.proofs.Surveyed.{beside-keeps}
+use Rattle.payload.specs.Reading.{walkedOf}
+use Rattle.payload.specs.declared.Extent.{Extent}
+use Rattle.payload.specs.declared.Walked.{Walked}
+use Rattle.payload.specs.declared.Walked.the-variants as walked
+use Rattle.payload.proofs.Seen.{differ, went, stopped}
+use Rattle.payload.proofs.Held.{beside-keeps}
 use Rattle.payload.proofs.Onward.{read-run, grows, Onward, onward, onward-bad, onward-shape, onward-whole}
 use Rattle.views.specs.View.{spot, placeOf, Holds}
 use Rattle.views.specs.declared.Place.{Place}
@@ -124,24 +124,24 @@ module _ (p : List ℕ) (row u i : ℕ) (h : Sought p row u i) where
     pub passed : (x : Shape) {f : Found} → f ≡ Got x → f ≡ foundOf (ending (take u p) (length (take u p))) → Passed p row u i x
     passed x a b = rw (onward-shape p u (h .later) (h .fs) (h .inside) on x a b) (passed-at on)
 
--- ---- what the survey says of a row
+-- ---- what the walk says of a row
 
-module _ (p : List ℕ) (row : ℕ) {s : Contents} (is : s ≡ contentsOf (readOf p)) where
+module _ (p : List ℕ) (row : ℕ) (o : Octets p) {s : Walked} (is : s ≡ walkedOf (readOf p)) where
   past : (a : ℕ) (fs : List Frame) (i : ℕ) → length fs ≤ i → Missing ≡ spot a fs i
   past a [] i l = refl
   past a (f ∷ fs) zero l = absurd (omega arith)
   past a (f ∷ fs) (suc i) l = past (a + wireLength (f .kind) (f .tc)) fs i (omega arith)
 
-  pub row-past : Octets p → (t : Totals) → s ≡ contents.Whole t → t .frames ≤ row → Missing ≡ placeOf (readOf p) row
+  pub row-past : (x : Extent) → s ≡ walked.Whole x → x .frames ≤ row → Missing ≡ placeOf (readOf p) row
   unfolding placeOf
-  row-past o t e h =
-      let a = accepted p is o t e in
-      let n : t .frames ≡ length (a .fs) = ap (λ (y : Totals). y .frames) (a .is) in
-      past 0 (a .fs) row (omega arith) ∙ ap (λ (w : Walk). placeOf w row) (sym (a .reads))
+  row-past x e h =
+      let w = went p o is x e in
+      let n : x .frames ≡ length (w .0 .fs) = ap (λ (y : Extent). y .frames) (w .1) in
+      past 0 (w .0 .fs) row (omega arith) ∙ ap (λ (v : Walk). placeOf v row) (sym (w .0 .reads))
 
-  pub row-there : Octets p → (t : Totals) → s ≡ contents.Whole t → row < t .frames → (row < t .frames) × Holds p (t .frames)
-  row-there o t e h = let a = accepted p is o t e in (h, record { fs = a .fs; reads = a .reads; frames = ap (λ (y : Totals). y .frames) (a .is) })
+  pub row-there : (x : Extent) → s ≡ walked.Whole x → row < x .frames → (row < x .frames) × Holds p (x .frames)
+  row-there x e h = let w = went p o is x e in (h, record { fs = w .0 .fs; reads = w .0 .reads; frames = ap (λ (y : Extent). y .frames) (w .1) })
 
-  pub row-refused : (x : Refusal) → s ≡ contents.Refused x → Missing ≡ placeOf (readOf p) row
+  pub row-refused : (x : Refusal) → s ≡ walked.Refused x → Missing ≡ placeOf (readOf p) row
   unfolding placeOf
-  row-refused x e = ap (λ (w : Walk). placeOf w row) (sym (denied p is x e .reads))
+  row-refused x e = ap (λ (v : Walk). placeOf v row) (sym (stopped p o is x e .reads))

@@ -4,7 +4,7 @@ ghost use Prim.Native.Nat.{_≤_, _<_};
 ghost use lib.ListN.{length};
 ghost use Rattle.wire.specs.Walk.{readOf};
 ghost use Rattle.views.specs.View.{placeOf, Holds, AugmentationShown, FrameShown};
-use payload::Contents;
+use payload::Walked;
 use wire::Found;
 use wire::Shape;
 
@@ -43,11 +43,11 @@ fn seek(payload: &[u8], row: usize, n: usize) -> Place
 pub fn locate(payload: &[u8], row: usize) -> Place
     ensures { λ r. ⌜ r ≡ placeOf (readOf (now (payload .entry))) row ⌝ }
 {
-    let seen = payload::survey(payload);
-    match seen {
-        Contents::Refused(_) => Place::Missing,
-        Contents::Whole(totals) => {
-            let n = totals.frames;
+    let walked = payload::walk(payload);
+    match walked {
+        Walked::Refused(_) => Place::Missing,
+        Walked::Whole(extent) => {
+            let n = extent.frames;
             if n <= row {
                 return Place::Missing;
             }

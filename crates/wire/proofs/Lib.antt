@@ -8,3 +8,4 @@ pub mod Sound
 pub mod Shapes
 pub mod Prefix
 pub mod Ranges
+pub mod Rates

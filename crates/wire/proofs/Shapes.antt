@@ -2,20 +2,20 @@
 use mathlib.Core.Path.{_≡_, refl, sym, ap, _∙_}
 use mathlib.Core.Logic.{_⊎_, inl, inr}
 use mathlib.Core.Bool.{Bool, true, false, cond}
-use mathlib.Core.List.{List}
+use mathlib.Core.List.{List, []}
 use Prim.Native.Nat.{ℕ, _+_, _-_, _≤_, _<_}
 use native.Mathlib.Omega.{arith}
-use lib.ListN.{length, getD}
+use lib.Dec.{ltb}
+use lib.ListN.{getD}
 use borrow.Author.Tests.{lt-ltb, le-ltb, ne-eqb, eq-eqb}
-use Rattle.wire.specs.Frame.{Kind, bps2400, bps1200, bps600, noise, tsvcis, LegalTc, Octets, size, rate, countOf, wireLength}
-use Rattle.wire.specs.Walk.{Ending, bad, got, ending, foreign, whole, lastFrame, clash, late, beside, shapeOf, foundOf}
-use Rattle.wire.specs.Step.{besideShape, wholeShape, HasBase}
+use Rattle.wire.specs.Frame.{Kind, bps2400, bps1200, bps600, noise, tsvcis, LegalTc, size, rate, wireLength}
+use Rattle.wire.specs.Walk.{Ending, bad, got, counted, ending, foreign, whole, lastFrame, clash, late, beside, shapeOf, foundOf}
+use Rattle.wire.specs.Step.{besideShape, wholeShape, Augmented}
 use Rattle.wire.specs.declared.Shape.{Shape}
 use Rattle.wire.specs.declared.Found.{Found}
 use Rattle.wire.specs.declared.Found.the-variants.{Bad, Got}
-use Rattle.wire.proofs.Tables.{below-or}
-use Rattle.wire.proofs.Steps.{clash-none, clash-same, clash-two, ending-none}
-use Rattle.wire.proofs.Ended.{Claims, ending-claims}
+use Rattle.wire.proofs.Tables.{below-or, Counts, short, long, counts}
+use Rattle.wire.proofs.Steps.{clash-none, clash-same, clash-two, counted-zero, counted-short, counted-long}
 
 module _ (later s : ℕ) (x : Shape) where
   pub allow-late : x .rate ≡ 0 → 0 < later → Bad 6 ≡ besideShape later s x
@@ -114,34 +114,59 @@ pub bad-is : (e : Ending) (n : ℕ) {f : Found} → f ≡ Bad n → f ≡ foundO
 bad-is (bad m) n a b = let q : m ≡ n = cc in ap bad q
 bad-is (got k t) n a b = absurd (let z : _≡_ {A = ℕ} 0 1 = cc in omega arith)
 
-has-base : (k : Kind) (t : ℕ) → LegalTc k t → HasBase (shapeOf k t)
-has-base bps2400 t l h = omega arith
-has-base bps1200 t l h = omega arith
-has-base bps600 t l h = omega arith
-has-base noise t l h = absurd (omega arith)
-has-base tsvcis t l h = omega arith
+-- ---- the step, kind by kind: x is the shape that the code made, r what it answered
 
-module _ (p : List ℕ) (later s : ℕ) where
-  pub step-bad : (n : ℕ) {f : Found} → f ≡ Bad n → f ≡ foundOf (ending p (length p)) → Bad n ≡ foundOf (beside later s (lastFrame p (length p)))
+module _ (p : List ℕ) (u later s : ℕ) where
+  pub step-bad : (n : ℕ) → ending p u ≡ bad n → Bad n ≡ foundOf (beside later s (lastFrame p u))
   unfolding lastFrame whole beside
-  step-bad n a b = rw (bad-is (ending p (length p)) n a b)
+  step-bad n e = rw e
 
-  module _ (o : Octets p) (x : Shape) {f : Found} (a : f ≡ Got x) (b : f ≡ foundOf (ending p (length p))) where
-    sh : Shaped (ending p (length p)) x
-    sh = shaped (ending p (length p)) x a b
+  step-is : (k : Kind) (t : ℕ) → LegalTc k t → ending p u ≡ got k t → wholeShape p u later s (shapeOf k t) ≡ foundOf (beside later s (lastFrame p u))
+  unfolding lastFrame
+  step-is k t l e = rw e (whole-shape p u later s k t l)
 
-    legal : LegalTc (sh .kind) (sh .tc)
-    legal = go (below-or 0 (length p))
-      where
-        go : (0 < length p) ⊎ (length p ≤ 0) → LegalTc (sh .kind) (sh .tc)
-        go (inl h) = (rw (sh .ends) at (ending-claims p (length p) o h)) .tc
-        go (inr h) =
-            let d : got (sh .kind) (sh .tc) ≡ bad 2 = sym (sh .ends) ∙ ending-none p (length p) (omega arith) in
-            absurd (let z : _≡_ {A = ℕ} 0 1 = cc in omega arith)
+  -- neither the octets before a frame without augmentation matter, nor for a coder frame how many are behind it
+  pub plain-step : (k : Kind) → LegalTc k 0 → (rate k ≡ 0 → ⊥) → ending p u ≡ got k 0 → {x : Shape} {r : Found} → x ≡ shapeOf k 0 → r ≡ wholeShape [] u 0 s x
+      → r ≡ foundOf (beside later s (lastFrame p u))
+  unfolding wholeShape besideShape
+  plain-step k l h e ex er =
+      let same : wholeShape [] u 0 s (shapeOf k 0) ≡ wholeShape p u later s (shapeOf k 0) = simp (ne-eqb (rate k) 0 h) in
+      er ∙ ap (wholeShape [] u 0 s) ex ∙ same ∙ step-is k 0 l e
 
-    pub step-base : HasBase x
-    step-base = rw (sh .is) (has-base (sh .kind) (sh .tc) legal)
+  pub noise-step : ending p u ≡ got noise 0 → {r : Found} → r ≡ wholeShape [] u later 0 (shapeOf noise 0) → r ≡ foundOf (beside later s (lastFrame p u))
+  unfolding wholeShape besideShape
+  noise-step e er = er ∙ step-is noise 0 refl e
 
-    pub step-got : wholeShape p (length p) later s x ≡ foundOf (beside later s (lastFrame p (length p)))
-    unfolding lastFrame
-    step-got = rw (sh .is, sh .ends) (whole-shape p (length p) later s (sh .kind) (sh .tc) legal)
+  pub tsvcis-step : (t : ℕ) → LegalTc tsvcis t → ending p u ≡ got tsvcis t → {x : Shape} {r : Found} → x ≡ shapeOf tsvcis t → r ≡ wholeShape p u 0 s x
+      → r ≡ foundOf (beside later s (lastFrame p u))
+  unfolding wholeShape besideShape
+  tsvcis-step t l e ex er = er ∙ ap (wholeShape p u 0 s) ex ∙ step-is tsvcis t l e
+
+  -- the octet before a last octet of 255 names no comfort noise
+  pub long-step : (t : ℕ) → ending p u ≡ counted t → {r : Found} → r ≡ foundOf (beside 0 s (whole p u (counted t))) → r ≡ foundOf (beside later s (lastFrame p u))
+  unfolding lastFrame whole beside
+  long-step t e er = er ∙ ap foundOf (go (below-or 0 t) (counts t) ∙ ap (λ (y : Ending). beside later s (whole p u y)) (sym e))
+    where
+      kept : (a b : Bool) → beside 0 s (cond a (bad 2) (cond b (bad 7) (got tsvcis t))) ≡ beside later s (cond a (bad 2) (cond b (bad 7) (got tsvcis t)))
+      kept true b = refl
+      kept false true = refl
+      kept false false = refl
+
+      go : (0 < t) ⊎ (t ≤ 0) → Counts t → beside 0 s (whole p u (counted t)) ≡ beside later s (whole p u (counted t))
+      go (inr z) c = rw (counted-zero t (omega arith))
+      go (inl z) (short a b) = rw (counted-short t a b)
+      go (inl z) (long c) = rw (counted-long t z c) (kept (ltb u (wireLength tsvcis t)) (ltb 63 (getD p (u - wireLength tsvcis t + 6) 0)))
+
+  pub long-got : (t : ℕ) → 1 ≤ t → t ≤ 255 → (t < 15) ⊎ (77 < t) → {x : Shape} {r : Found} → x ≡ shapeOf tsvcis t → r ≡ wholeShape p u 0 s x
+      → r ≡ foundOf (beside 0 s (whole p u (counted t)))
+  long-got t a b h ex er = er ∙ ap (wholeShape p u 0 s) ex ∙ whole-shape p u 0 s tsvcis t (a, b) ∙ ap (λ (y : Ending). foundOf (beside 0 s (whole p u y))) (sym (counted-long t a h))
+
+  pub long-bad : (t n : ℕ) → counted t ≡ bad n → Bad n ≡ foundOf (beside 0 s (whole p u (counted t)))
+  unfolding beside whole
+  long-bad t n e = rw e
+
+pub augmented : (t : ℕ) → 1 ≤ t → {x : Shape} → x ≡ shapeOf tsvcis t → Augmented x
+augmented t h e = rw e (record { some = λ z. omega arith; based = omega arith; rated = λ z. omega arith })
+
+pub plain : (k : Kind) → (rate k ≡ 0 → ⊥) → {x : Shape} → x ≡ shapeOf k 0 → (x .tc ≡ 0) × (x .rate ≡ 0 → ⊥)
+plain k h e = rw e (refl, h)

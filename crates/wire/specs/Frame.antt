@@ -4,7 +4,7 @@ use mathlib.Core.Path.{_≡_}
 use mathlib.Core.Bool.{Bool, cond, _&&_}
 use mathlib.Core.List.{List, [], _∷_, _++_}
 use Prim.Native.Nat.{ℕ, _+_, _-_, _≤_, _<_}
-use lib.Dec.{leb}
+use lib.Dec.{leb, eqb}
 use lib.ListN.{length, getD, set}
 
 -- "kind": the five frames
@@ -62,6 +62,10 @@ ticks bps1200 = 540
 ticks bps600 = 720
 ticks noise = 0
 ticks tsvcis = 180
+
+-- "A coder frame lasts 180, 540 or 720 ticks at 2400, 1200, 600"; no other number is a rate, and 0 stands for it
+unfoldable pub ticksOfRate : ℕ → ℕ
+ticksOfRate r = cond (eqb r 2400) 180 (cond (eqb r 1200) 540 (cond (eqb r 600) 720 0))
 
 -- "A frame is given by its kind, its TC and its body"
 pub record Frame : Type 0 where

@@ -24,9 +24,11 @@ wholeShape p u later s x =
     (cond (eqb (x .tc) 0) (besideShape later s x)
     (cond (ltb 63 (getD p (u - x .wire + 6) 0)) (Bad notBehind2400) (besideShape later s x)))
 
--- augmentation stands behind seven octets
-abbrev pub HasBase : Shape → Type 0
-HasBase x = 1 ≤ x .tc → 7 ≤ x .wire
+-- a coder frame with augmentation, which stands behind seven octets
+pub record Augmented (x : Shape) : Type 0 where
+  pub some : x .tc ≡ 0 → ⊥
+  pub based : 7 ≤ x .wire
+  pub rated : x .rate ≡ 0 → ⊥
 
 -- a TSVCIS frame of TC t has n octets of count
 pub record CountIs (t n : ℕ) : Type 0 where

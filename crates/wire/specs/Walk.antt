@@ -6,7 +6,7 @@ use Prim.Native.Nat.{ℕ, zero, suc, _+_, _-_}
 use lib.Dec.{ltb, eqb}
 use lib.ListN.{length, getD, set, take, drop}
 use Rattle.refusal.specs.Numbers.{tooLong, cutFrame, foreignBits, zeroCount, longCount, noiseNotLast, notBehind2400, mixedRates}
-use Rattle.wire.specs.Frame.{Frame, Kind, bps2400, bps1200, bps600, noise, tsvcis, number, size, code, rate, ticks, isShort, countOf, wireLength}
+use Rattle.wire.specs.Frame.{Frame, Kind, bps2400, bps1200, bps600, noise, tsvcis, number, size, code, rate, isShort, countOf, wireLength}
 use Rattle.wire.specs.declared.Shape.{Shape}
 use Rattle.wire.specs.declared.Found.{Found}
 use Rattle.wire.specs.declared.Found.the-variants.{Bad, Got}
@@ -111,7 +111,7 @@ readOf p = cond (ltb 1400 (length p)) (refused tooLong 1400 []) (run (length p) 
 
 -- all that the code asks of a frame of a kind and TC, in numbers
 abbrev pub shapeOf : Kind → ℕ → Shape
-shapeOf k t = record { kind = number k; tc = t; size = size k; code = code k; rate = rate k; ticks = ticks k; wire = wireLength k t }
+shapeOf k t = record { kind = number k; tc = t; size = size k; code = code k; rate = rate k; wire = wireLength k t; count = length (countOf k t) }
 
 -- what stands at the end of the unread octets, as the code answers it
 abbrev pub foundOf : Ending → Found

@@ -1,20 +1,22 @@
 // The frame that a payload's unread octets end in: its numbers, all at once, or the refusal of document 01's "Reader".
 ghost use mathlib.Core.Path.{_≡_};
 ghost use Prim.Native.Nat.{_≤_, _<_};
+ghost use mathlib.Core.List.{[]};
 ghost use lib.ListN.{length};
-ghost use Rattle.wire.specs.Frame.{tsvcis};
-ghost use Rattle.wire.specs.Walk.{got, named, counted, ending, lastFrame, beside, foundOf};
-ghost use Rattle.wire.specs.Step.{besideShape, wholeShape, HasBase, CountIs};
+ghost use Rattle.wire.specs.Frame.{bps2400, bps1200, bps600, noise, tsvcis, ticksOfRate};
+ghost use Rattle.wire.specs.Walk.{named, counted, ending, whole, lastFrame, beside, foundOf, shapeOf};
+ghost use Rattle.wire.specs.Step.{besideShape, wholeShape, Augmented, CountIs};
 
-// A frame's numbers: kind and TC as in a row, octets of its base, rate code bits, rate, ticks, octets on the wire.
+// A frame's numbers: kind and TC as in a row, octets of its base, rate code bits, rate, octets on the wire and the
+// octets of its count among them.
 pub struct Shape {
     pub kind: u16,
     pub tc: usize,
     pub size: usize,
     pub code: u8,
     pub rate: u32,
-    pub ticks: usize,
     pub wire: usize,
+    pub count: usize,
 }
 
 // What the unread octets end in: a refusal's number, or a frame.
@@ -29,34 +31,119 @@ fn wide(x: u8) -> usize
     x as usize
 }
 
-fn plain(kind: u16, size: usize, code: u8, rate: u32, ticks: usize) -> Found
-    ensures { λ r. ⌜ r ≡ Found.Got (record { kind = kind; tc = 0; size = size; code = code; rate = rate; ticks = ticks; wire = size }) ⌝ }
+// The ticks of a coder frame at a rate; 0 at any other number.
+pub fn ticks_of_rate(rate: u32) -> usize
+    ensures { λ r. ⌜ r ≡ ticksOfRate rate ⌝ }
 {
-    Found::Got(Shape {
-        kind,
+    if rate == 2400 {
+        return 180;
+    }
+    if rate == 1200 {
+        return 540;
+    }
+    if rate == 600 {
+        return 720;
+    }
+    0
+}
+
+// ---- the shapes
+
+fn shape_2400() -> Shape
+    ensures { λ r. ⌜ r ≡ shapeOf bps2400 0 ⌝ }
+{
+    Shape {
+        kind: 1,
         tc: 0,
-        size,
-        code,
-        rate,
-        ticks,
-        wire: size,
-    })
+        size: 7,
+        code: 0,
+        rate: 2400,
+        wire: 7,
+        count: 0,
+    }
+}
+
+fn shape_1200() -> Shape
+    ensures { λ r. ⌜ r ≡ shapeOf bps1200 0 ⌝ }
+{
+    Shape {
+        kind: 2,
+        tc: 0,
+        size: 11,
+        code: 128,
+        rate: 1200,
+        wire: 11,
+        count: 0,
+    }
+}
+
+fn shape_600() -> Shape
+    ensures { λ r. ⌜ r ≡ shapeOf bps600 0 ⌝ }
+{
+    Shape {
+        kind: 3,
+        tc: 0,
+        size: 7,
+        code: 64,
+        rate: 600,
+        wire: 7,
+        count: 0,
+    }
+}
+
+fn shape_noise() -> Shape
+    ensures { λ r. ⌜ r ≡ shapeOf noise 0 ⌝ }
+{
+    Shape {
+        kind: 4,
+        tc: 0,
+        size: 2,
+        code: 160,
+        rate: 0,
+        wire: 2,
+        count: 0,
+    }
 }
 
 // A TSVCIS frame of this TC, whose count takes `count` octets.
-fn augmented(tc: usize, count: usize) -> Found
+fn shape_tsvcis(tc: usize, count: usize) -> Shape
     requires { ⌜ CountIs tc count ⌝ }
-    ensures { λ r. ⌜ r ≡ foundOf (got tsvcis tc) ⌝ }
+    ensures { λ r. ⌜ r ≡ shapeOf tsvcis tc ⌝ }
 {
-    Found::Got(Shape {
+    Shape {
         kind: 5,
         tc,
         size: 7,
         code: 0,
         rate: 2400,
-        ticks: 180,
         wire: 7 + tc + count,
-    })
+        count,
+    }
+}
+
+// ---- what the last octets name
+
+// The frame that a last octet below 255 names.
+fn last_octet(x: u8) -> Found
+    requires { ⌜ x < 255 ⌝ }
+    ensures { λ r. ⌜ r ≡ foundOf (named x) ⌝ }
+{
+    if x < 64 {
+        return Found::Got(shape_2400());
+    }
+    if x < 128 {
+        return Found::Got(shape_600());
+    }
+    if x < 130 {
+        return Found::Got(shape_1200());
+    }
+    if x < 160 {
+        return Found::Bad(refusal::FOREIGN_BITS);
+    }
+    if x < 192 {
+        return Found::Got(shape_noise());
+    }
+    Found::Got(shape_tsvcis(wide(x) - 177, 1))
 }
 
 // The frame that a long count of `tc` names.
@@ -68,35 +155,12 @@ fn long_count(tc: usize) -> Found
         return Found::Bad(refusal::ZERO_COUNT);
     }
     if tc < 15 {
-        return augmented(tc, 2);
+        return Found::Got(shape_tsvcis(tc, 2));
     }
     if tc <= 77 {
         return Found::Bad(refusal::LONG_COUNT);
     }
-    augmented(tc, 2)
-}
-
-// The frame that a last octet below 255 names.
-fn last_octet(x: u8) -> Found
-    requires { ⌜ x < 255 ⌝ }
-    ensures { λ r. ⌜ r ≡ foundOf (named x) ⌝ }
-{
-    if x < 64 {
-        return plain(1, 7, 0, 2400, 180);
-    }
-    if x < 128 {
-        return plain(3, 7, 64, 600, 720);
-    }
-    if x < 130 {
-        return plain(2, 11, 128, 1200, 540);
-    }
-    if x < 160 {
-        return Found::Bad(refusal::FOREIGN_BITS);
-    }
-    if x < 192 {
-        return plain(4, 2, 160, 0, 0);
-    }
-    augmented(wide(x) - 177, 1)
+    Found::Got(shape_tsvcis(tc, 2))
 }
 
 // The frame that the unread octets name by their end, whole or not.
@@ -117,18 +181,15 @@ pub fn name(unread: &[u8]) -> Found
     long_count(wide(unread[n - 2]))
 }
 
-// A frame of these numbers, where `later` frames behind it are read, coder frames among them being of the rate `rate`.
-fn allow(shape: Shape, later: usize, rate: u32) -> Found
-    ensures { λ r. ⌜ r ≡ besideShape later rate shape ⌝ }
+// ---- the walk's step. Each kind goes its own way to its answer, with its numbers known: measured, the walk is then half
+// as fast again as over `name`.
+
+// A coder frame beside coder frames of the rate `rate`, or beside none.
+fn coder_frame(shape: Shape, rate: u32) -> Found
+    requires { ⌜ (shape .rate ≡ 0 → ⊥) ⌝ }
+    ensures { λ r. ⌜ r ≡ besideShape 0 rate shape ⌝ }
 {
-    let own = shape.rate;
-    if own == 0 {
-        if 0 < later {
-            return Found::Bad(refusal::NOISE_NOT_LAST);
-        }
-        return Found::Got(shape);
-    }
-    if rate == own {
+    if rate == shape.rate {
         return Found::Got(shape);
     }
     if rate == 0 {
@@ -137,23 +198,61 @@ fn allow(shape: Shape, later: usize, rate: u32) -> Found
     Found::Bad(refusal::MIXED_RATES)
 }
 
-// The same, if the unread octets hold it whole and its augmentation stands behind a 2400 bps frame.
-fn admit(unread: &[u8], shape: Shape, later: usize, rate: u32) -> Found
-    requires { ⌜ HasBase shape ⌝ }
-    ensures { λ r. ⌜ r ≡ wholeShape (now (unread .entry)) (length (now (unread .entry))) later rate shape ⌝ }
+// A coder frame without augmentation, at the end of n unread octets.
+fn plain_frame(n: usize, shape: Shape, rate: u32) -> Found
+    requires { ⌜ (shape .tc ≡ 0) × (shape .rate ≡ 0 → ⊥) ⌝ }
+    ensures { λ r. ⌜ r ≡ wholeShape [] n 0 rate shape ⌝ }
+{
+    if n < shape.wire {
+        return Found::Bad(refusal::CUT);
+    }
+    coder_frame(shape, rate)
+}
+
+// Comfort noise, with `later` frames behind it.
+fn noise_frame(n: usize, later: usize) -> Found
+    ensures { λ r. ⌜ r ≡ wholeShape [] n later 0 (shapeOf noise 0) ⌝ }
+{
+    if n < 2 {
+        return Found::Bad(refusal::CUT);
+    }
+    if 0 < later {
+        return Found::Bad(refusal::NOISE_NOT_LAST);
+    }
+    Found::Got(shape_noise())
+}
+
+// A TSVCIS frame, whose augmentation must stand behind a 2400 bps frame.
+fn tsvcis_frame(unread: &[u8], shape: Shape, rate: u32) -> Found
+    requires { ⌜ Augmented shape ⌝ }
+    ensures { λ r. ⌜ r ≡ wholeShape (now (unread .entry)) (length (now (unread .entry))) 0 rate shape ⌝ }
 {
     let n = unread.len();
     let wire = shape.wire;
     if n < wire {
         return Found::Bad(refusal::CUT);
     }
-    if shape.tc == 0 {
-        return allow(shape, later, rate);
-    }
     if 63 < unread[n - wire + 6] {
         return Found::Bad(refusal::NOT_BEHIND_2400);
     }
-    allow(shape, later, rate)
+    coder_frame(shape, rate)
+}
+
+// The frame of a long count of `tc`.
+fn long_frame(unread: &[u8], tc: usize, rate: u32) -> Found
+    requires { ⌜ tc < 256 ⌝ }
+    ensures { λ r. ⌜ r ≡ foundOf (beside 0 rate (whole (now (unread .entry)) (length (now (unread .entry))) (counted tc))) ⌝ }
+{
+    if tc == 0 {
+        return Found::Bad(refusal::ZERO_COUNT);
+    }
+    if tc < 15 {
+        return tsvcis_frame(unread, shape_tsvcis(tc, 2), rate);
+    }
+    if tc <= 77 {
+        return Found::Bad(refusal::LONG_COUNT);
+    }
+    tsvcis_frame(unread, shape_tsvcis(tc, 2), rate)
 }
 
 // The walk's step: the frame that the unread octets end in, where `later` frames behind it are read, of the rate `rate`
@@ -161,9 +260,31 @@ fn admit(unread: &[u8], shape: Shape, later: usize, rate: u32) -> Found
 pub fn step(unread: &[u8], later: usize, rate: u32) -> Found
     ensures { λ r. ⌜ r ≡ foundOf (beside later rate (lastFrame (now (unread .entry)) (length (now (unread .entry))))) ⌝ }
 {
-    let found = name(unread);
-    match found {
-        Found::Bad(n) => Found::Bad(n),
-        Found::Got(shape) => admit(unread, shape, later, rate),
+    let n = unread.len();
+    if n == 0 {
+        return Found::Bad(refusal::CUT);
     }
+    let x = unread[n - 1];
+    if x < 64 {
+        return plain_frame(n, shape_2400(), rate);
+    }
+    if x < 128 {
+        return plain_frame(n, shape_600(), rate);
+    }
+    if x < 130 {
+        return plain_frame(n, shape_1200(), rate);
+    }
+    if x < 160 {
+        return Found::Bad(refusal::FOREIGN_BITS);
+    }
+    if x < 192 {
+        return noise_frame(n, later);
+    }
+    if x < 255 {
+        return tsvcis_frame(unread, shape_tsvcis(wide(x) - 177, 1), rate);
+    }
+    if n == 1 {
+        return Found::Bad(refusal::CUT);
+    }
+    long_frame(unread, wide(unread[n - 2]), rate)
 }

@@ -1,5 +1,6 @@
 use native.Mathlib.Omega.{arith}
-use Rattle.clock.proofs.Timed.{ticks-most, product-most, ptime-rate, ptime-few, ptime-many, ptime-right}
+use Rattle.wire.proofs.Rates.{product-most}
+use Rattle.clock.proofs.Timed.{ptime-rate, ptime-few, ptime-many, ptime-right}
 use mathlib.Core.Path.{sym, _∙_}
 use borrow.Author.Needs.{needs}
 use Rattle.clock.proofs.ptime.Statement.{statement}

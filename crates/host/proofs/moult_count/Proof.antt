@@ -4,39 +4,39 @@ use borrow.Author.Needs.{needs}
 use Rattle.host.proofs.moult_count.Statement.{statement}
 use Rattle.host.proofs.moult_count.Tie as tie
 
-survey-requires : tie.Need-survey-requires
-survey-requires c κs = search needs
+walk-requires : tie.Need-walk-requires
+walk-requires c κs = search needs
 
-enum-known-seen : tie.Need-enum-known-seen
-enum-known-seen c = search needs
+enum-known-walked : tie.Need-enum-known-walked
+enum-known-walked c = search needs
 
 cast-result : tie.Need-cast-result
 cast-result c = search needs
 
 sub-result : tie.Need-sub-result
-sub-result c = sub-fits (c .before .before .seen .given .0 .0 .number) (omega arith)
+sub-result c = sub-fits (c .before .before .walked .given .0 .0 .number) (omega arith)
 
-enum-known-seen-2 : tie.Need-enum-known-seen-2
-enum-known-seen-2 c = search needs
+enum-known-walked-2 : tie.Need-enum-known-walked-2
+enum-known-walked-2 c = search needs
 
 cast-result-2 : tie.Need-cast-result-2
-cast-result-2 c = record { sfits = omega (arith, few _ (λ i. c .before .before .before .before .before .shared-slice-known .given i .fits) (c .before .before .before .before .survey .ensures) _ (c .before .before .seen2 .given .1)) }
+cast-result-2 c = record { sfits = omega (arith, few _ (λ i. c .before .before .before .before .before .shared-slice-known .given i .fits) (c .before .before .before .before .walk .ensures) _ (c .before .before .walked2 .given .1)) }
 
 returns : tie.Need-returns
-returns c = count-refused _ (λ i. c .before .before .before .before .before .shared-slice-known .given i .fits) (c .before .before .before .before .survey .ensures) _ (c .before .before .seen .given .1) (omega arith)
+returns c = count-refused _ (λ i. c .before .before .before .before .before .shared-slice-known .given i .fits) (c .before .before .before .before .walk .ensures) _ (c .before .before .walked .given .1) (omega arith)
 
 returns-2 : tie.Need-returns-2
-returns-2 c = count-whole _ (λ i. c .before .before .before .before .before .shared-slice-known .given i .fits) (c .before .before .before .before .survey .ensures) _ (c .before .before .seen2 .given .1)
+returns-2 c = count-whole _ (λ i. c .before .before .before .before .before .shared-slice-known .given i .fits) (c .before .before .before .before .walk .ensures) _ (c .before .before .walked2 .given .1)
 
 pub moult-count-spec : {M : Type 1} → statement M
 moult-count-spec =
     tie.close
     (tie.spec
-    survey-requires
-    enum-known-seen
+    walk-requires
+    enum-known-walked
     cast-result
     sub-result
-    enum-known-seen-2
+    enum-known-walked-2
     cast-result-2
     returns
     returns-2)

@@ -1,85 +1,33 @@
-use native.Mathlib.Omega.{arith}
-use mathlib.Core.Path.{sym, _∙_}
+use Rattle.payload.proofs.Timing.{went-over, survey-refused, survey-whole}
 use borrow.Author.Needs.{needs}
-use lib.ListN.{length}
-use lib.Seq.{length-take-le}
-use Rattle.payload.proofs.Surveyed.{Held, Sized, too-long, held-start, held-end, held-bad, held-sized, held-got}
 use Rattle.payload.proofs.survey.Statement.{statement}
 use Rattle.payload.proofs.survey.Tie as tie
 
-abbrev Inv-loop : tie.InvT-loop
-Inv-loop payload unread₀ frames₀ octets₀ ticks₀ rate₀ unread frames octets ticks rate = Held payload unread frames octets ticks rate
+walk-requires : tie.Need-walk-requires
+walk-requires c κs = search needs
 
-abbrev μ-loop : tie.MeasureT-loop
-μ-loop payload unread₀ frames₀ octets₀ ticks₀ rate₀ unread frames octets ticks rate = unread
+enum-known-walked : tie.Need-enum-known-walked
+enum-known-walked c = search needs
 
--- the turn's frame
-frame : (c : tie.After-found2 Inv-loop μ-loop) → Sized (c .before .before .before .before .before .loop .unread) (c .found2 .given .0 .0)
-frame c = held-sized _ _ _ _ _ _ (c .before .before .before .before .before .loop .inv) (c .before .before .before .before .loop-test .taken) (λ i. c .before .before .before .before .before .before .before .shared-slice-known .given i .fits) _ (c .found2 .given .1) (c .before .before .step .ensures)
+enum-known-walked-2 : tie.Need-enum-known-walked-2
+enum-known-walked-2 c = search needs
 
-returns : tie.Need-returns Inv-loop μ-loop
-returns c = too-long _ (omega arith)
+ticks-in-requires : tie.Need-ticks-in-requires
+ticks-in-requires c κs = went-over _ (λ i. c .before .before .before .before .shared-slice-known .given i .fits) (c .before .before .before .walk .ensures) _ (c .before .walked2 .given .1)
 
-loop-holds : tie.Need-loop-holds Inv-loop μ-loop
-loop-holds c = held-start _ (omega arith)
+returns : tie.Need-returns
+returns c = survey-refused _ (λ i. c .before .before .before .before .shared-slice-known .given i .fits) (c .before .before .before .walk .ensures) _ (c .before .walked .given .1)
 
-slice-aggregate-step : tie.Need-slice-aggregate-step Inv-loop μ-loop
-slice-aggregate-step c = sym (length-take-le _ _ (omega (arith, c .before .before .loop .inv .few)))
-
-step-requires : tie.Need-step-requires Inv-loop μ-loop
-step-requires c κs = search needs
-
-enum-known-found : tie.Need-enum-known-found Inv-loop μ-loop
-enum-known-found c = search needs
-
-returns-2 : tie.Need-returns-2 Inv-loop μ-loop
-returns-2 c = held-bad _ _ _ _ _ _ (c .before .before .before .before .before .before .loop .inv) (c .before .before .before .before .before .loop-test .taken) _ (c .before .found .given .1) (c .before .before .before .step .ensures)
-
-enum-known-found-2 : tie.Need-enum-known-found-2 Inv-loop μ-loop
-enum-known-found-2 c = search needs
-
-sub-unread : tie.Need-sub-unread Inv-loop μ-loop
-sub-unread c = frame (c .before .before) .room
-
-add-frames : tie.Need-add-frames Inv-loop μ-loop
-add-frames c = omega (arith, c .before .before .before .before .before .before .before .loop .inv .few, c .before .before .before .before .before .before .before .loop .inv .short)
-
-add-octets : tie.Need-add-octets Inv-loop μ-loop
-add-octets c = omega (arith, frame (c .before .before .before) .body, frame (c .before .before .before) .room, c .before .before .before .before .before .before .before .before .loop .inv .small, c .before .before .before .before .before .before .before .before .loop .inv .short)
-
-add-octets-2 : tie.Need-add-octets-2 Inv-loop μ-loop
-add-octets-2 c = omega (arith, frame (c .before .before .before) .body, frame (c .before .before .before) .room, c .before .before .before .before .before .before .before .before .loop .inv .small, c .before .before .before .before .before .before .before .before .loop .inv .short)
-
-add-ticks : tie.Need-add-ticks Inv-loop μ-loop
-add-ticks c = omega (arith, frame (c .before .before .before .before) .short, c .before .before .before .before .before .before .before .before .before .loop .inv .slow, c .before .before .before .before .before .before .before .before .before .loop .inv .few, c .before .before .before .before .before .before .before .before .before .loop .inv .short)
-
-loop-less : tie.Need-loop-less Inv-loop μ-loop
-loop-less c = omega (arith, frame (c .before .before .before .before) .some, c .before .before .before .before .before .before .before .before .loop-test .taken)
-
-loop-again : tie.Need-loop-again Inv-loop μ-loop
-loop-again c = held-got _ _ _ _ _ _ (c .before .before .before .before .before .before .before .before .before .loop .inv) (c .before .before .before .before .before .before .before .before .loop-test .taken) (λ i. c .before .before .before .before .before .before .before .before .before .before .before .shared-slice-known .given i .fits) _ (c .before .before .before .before .found2 .given .1) (c .before .before .before .before .before .before .step .ensures)
-
-returns-3 : tie.Need-returns-3 Inv-loop μ-loop
-returns-3 c = held-end _ _ _ _ _ _ (c .before .loop .inv) (c .loop-test .left)
+returns-2 : tie.Need-returns-2
+returns-2 c = survey-whole _ (λ i. c .before .before .before .before .before .shared-slice-known .given i .fits) (c .before .before .before .before .walk .ensures) _ (c .before .before .walked2 .given .1) (c .ticks-in .ensures)
 
 pub survey-spec : {M : Type 1} → statement M
 survey-spec =
     tie.close
     (tie.spec
-    Inv-loop
-    μ-loop
+    walk-requires
+    enum-known-walked
+    enum-known-walked-2
+    ticks-in-requires
     returns
-    loop-holds
-    slice-aggregate-step
-    step-requires
-    enum-known-found
-    returns-2
-    enum-known-found-2
-    sub-unread
-    add-frames
-    add-octets
-    add-octets-2
-    add-ticks
-    loop-less
-    loop-again
-    returns-3)
+    returns-2)

@@ -1,6 +1,6 @@
-use Rattle.clock.proofs.Timed.{at-2400, at-1200, at-600, at-none}
-use Rattle.clock.proofs.ticks_of_rate.Statement.{statement}
-use Rattle.clock.proofs.ticks_of_rate.Tie as tie
+use Rattle.wire.proofs.Rates.{at-2400, at-1200, at-600, at-none}
+use Rattle.wire.proofs.ticks_of_rate.Statement.{statement}
+use Rattle.wire.proofs.ticks_of_rate.Tie as tie
 
 returns : tie.Need-returns
 returns c = at-2400 _ (c .if1 .taken)

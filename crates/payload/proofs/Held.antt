@@ -6,7 +6,7 @@ use Prim.Native.Nat.{ℕ, zero, suc, _+_, _-_, _*_, _≤_, _<_}
 use native.Mathlib.Omega.{arith}
 use lib.ListN.{length, take, length-append, length-set}
 use borrow.Author.Tests.{lt-ltb, le-ltb}
-use Rattle.wire.specs.Frame.{Frame, Kind, bps2400, bps1200, bps600, noise, tsvcis, Octets, size, rate, ticks, wireLength, bodiesOf, ticksOf}
+use Rattle.wire.specs.Frame.{Frame, Kind, Octets, size, rate, countOf, wireLength, bodiesOf}
 use Rattle.wire.specs.Walk.{Ending, bad, got, lastFrame, beside, late, clash, seen, turn, next, frameAt, run, readOf, Walk, at, refused, shapeOf, foundOf}
 use Rattle.wire.specs.declared.Shape.{Shape}
 use Rattle.wire.specs.declared.Found.{Found}
@@ -17,17 +17,8 @@ use Rattle.wire.proofs.Ended.{Whole, Wholes, last-says}
 use Rattle.wire.proofs.Sound.{run-refused, length-base}
 use Rattle.wire.proofs.Prefix.{last-take}
 use Rattle.wire.proofs.Shapes.{Shaped, shaped, bad-is}
-use Rattle.payload.specs.Reading.{contentsOf, refuse}
-use Rattle.payload.specs.declared.Totals.{Totals}
-use Rattle.payload.specs.declared.Contents.{Contents}
-use Rattle.payload.specs.declared.Contents.the-variants as contents
-
-ticks-most : (k : Kind) → ticks k ≤ 720
-ticks-most bps2400 = omega arith
-ticks-most bps1200 = omega arith
-ticks-most bps600 = omega arith
-ticks-most noise = omega arith
-ticks-most tsvcis = omega arith
+use Rattle.payload.specs.Reading.{walkedOf, refuse}
+use Rattle.payload.specs.declared.Walked.the-variants as walked
 
 -- a turn's frame is whole
 pub beside-keeps : (p : List ℕ) (u n s : ℕ) (e : Ending) → Wholes p u e → Wholes p u (beside n s e)
@@ -47,7 +38,7 @@ pub record Sized (u : ℕ) (x : Shape) : Type 0 where
   pub body : x .size + x .tc ≤ x .wire
   pub based : 1 ≤ x .size
   pub less : x .tc < 256
-  pub short : x .ticks ≤ 720
+  pub parts : x .size + x .tc + x .count ≡ x .wire
 
 pub sized : (p : List ℕ) (u : ℕ) (k : Kind) (t : ℕ) → Whole p u k t → Sized u (shapeOf k t)
 sized p u k t w = record {
@@ -56,51 +47,46 @@ sized p u k t w = record {
   body = omega arith;
   based = omega (arith, size-pos k);
   less = tc-most k t (w .tc);
-  short = ticks-most k;
+  parts = refl;
 }
 
--- u octets are unread; n frames behind them with m octets of bodies, d ticks and the rate s are read
-pub record Held (p : List ℕ) (u n m d s : ℕ) : Type 0 where
+-- u octets are unread; n frames behind them with q octets of counts and the rate s are read
+pub record Held (p : List ℕ) (u n q s : ℕ) : Type 0 where
   pub later : List Frame
   pub fuel : ℕ
   pub enough : u ≤ fuel
   pub frames : n ≡ length later
-  pub octets : m ≡ length (bodiesOf later)
-  pub time : d ≡ ticksOf later
+  pub octets : q + length (bodiesOf later) + u ≡ length p
   pub rates : s ≡ seen later
   pub few : n + u ≤ length p
-  pub small : m + u ≤ length p
-  pub slow : d ≤ 720 * n
   pub short : length p ≤ 1400
   pub same : run fuel p (at u later) ≡ readOf p
 
-pub too-long : (p : List ℕ) → 1400 < length p → contents.Refused (refuse 1 1400) ≡ contentsOf (readOf p)
+pub too-long : (p : List ℕ) → 1400 < length p → walked.Refused (refuse 1 1400) ≡ walkedOf (readOf p)
 unfolding readOf
 too-long p h = simp (lt-ltb 1400 (length p) h)
 
-pub held-start : (p : List ℕ) → length p ≤ 1400 → Held p (length p) 0 0 0 0
+pub held-start : (p : List ℕ) → length p ≤ 1400 → Held p (length p) 0 0 0
 unfolding readOf
 held-start p h = record {
   later = [];
   fuel = length p;
   enough = omega arith;
   frames = refl;
-  octets = refl;
-  time = refl;
+  octets = omega arith;
   rates = refl;
   few = omega arith;
-  small = omega arith;
-  slow = omega arith;
   short = h;
   same = simp (le-ltb 1400 (length p) h);
 }
 
-pub held-end : (p : List ℕ) (u n m d s : ℕ) → Held p u n m d s → u ≤ 0 → contents.Whole (record { frames = n; octets = m; ticks = d }) ≡ contentsOf (readOf p)
-held-end p u n m d s h z =
+pub held-end : (p : List ℕ) (u n q s : ℕ) → Held p u n q s → u ≤ 0 → walked.Whole (record { frames = n; octets = length p - q; rate = s }) ≡ walkedOf (readOf p)
+held-end p u n q s h z =
     let e : u ≡ 0 = omega arith in
-    rw (← (h .same), e, stay (h .fuel) p (h .later), h .frames, h .octets, h .time)
+    let o : length p - q ≡ length (bodiesOf (h .later)) = omega (arith, h .octets) in
+    rw (← (h .same), e, stay (h .fuel) p (h .later), h .frames, o, h .rates)
 
-module _ (p : List ℕ) (u n m d s : ℕ) (h : Held p u n m d s) (pos : 1 ≤ u) where
+module _ (p : List ℕ) (u n q s : ℕ) (h : Held p u n q s) (pos : 1 ≤ u) where
   here : Ending
   here = beside n s (lastFrame p u)
 
@@ -111,15 +97,15 @@ module _ (p : List ℕ) (u n m d s : ℕ) (h : Held p u n m d s) (pos : 1 ≤ u)
 
   turns : (e : Ending) → here ≡ e → next p (at u (h .later)) ≡ turn p u (h .later) e
   unfolding here
-  turns e q = next-at p u (h .later) pos ∙ ap (turn p u (h .later)) (rw (h .frames, h .rates) at q)
+  turns e i = next-at p u (h .later) pos ∙ ap (turn p u (h .later)) (rw (h .frames, h .rates) at i)
 
   pub held-bad : (x : ℕ) {f : Found} → f ≡ Bad x → f ≡ foundOf (beside n s (lastFrame (take u p) (length (take u p))))
-      → contents.Refused (refuse x u) ≡ contentsOf (readOf p)
+      → walked.Refused (refuse x u) ≡ walkedOf (readOf p)
   held-bad x a b = go (h .fuel) (h .enough) (h .same)
     where
-      go : (f : ℕ) → u ≤ f → run f p (at u (h .later)) ≡ readOf p → contents.Refused (refuse x u) ≡ contentsOf (readOf p)
-      go zero l q = absurd (omega arith)
-      go (suc f) l q = rw (← q, turns (bad x) (bad-is here x a (there b)), run-refused f p x u (h .later))
+      go : (f : ℕ) → u ≤ f → run f p (at u (h .later)) ≡ readOf p → walked.Refused (refuse x u) ≡ walkedOf (readOf p)
+      go zero l e = absurd (omega arith)
+      go (suc f) l e = rw (← e, turns (bad x) (bad-is here x a (there b)), run-refused f p x u (h .later))
 
   module _ (o : Octets p) (x : Shape) {f : Found} (a : f ≡ Got x) (b : f ≡ foundOf (beside n s (lastFrame (take u p) (length (take u p))))) where
     sh : Shaped here x
@@ -132,28 +118,25 @@ module _ (p : List ℕ) (u n m d s : ℕ) (h : Held p u n m d s) (pos : 1 ≤ u)
     pub held-sized : Sized u x
     held-sized = rw (sh .is) (sized p u (sh .kind) (sh .tc) whole)
 
-    next-held : (k : Kind) (t : ℕ) → here ≡ got k t → Whole p u k t → Held p (u - wireLength k t) (n + 1) (m + (size k + t)) (d + ticks k) (rate k)
+    next-held : (k : Kind) (t : ℕ) → here ≡ got k t → Whole p u k t → Held p (u - wireLength k t) (n + 1) (q + length (countOf k t)) (rate k)
     next-held k t e w = go (h .fuel) (h .enough) (h .same)
       where
         body : length (frameAt p (u - wireLength k t) k t .body) ≡ size k + t
         body = simp length-set (length-base p u k t o (omega (arith, h .few)) w)
 
-        go : (f : ℕ) → u ≤ f → run f p (at u (h .later)) ≡ readOf p → Held p (u - wireLength k t) (n + 1) (m + (size k + t)) (d + ticks k) (rate k)
-        go zero l q = absurd (omega arith)
-        go (suc f) l q = record {
+        go : (f : ℕ) → u ≤ f → run f p (at u (h .later)) ≡ readOf p → Held p (u - wireLength k t) (n + 1) (q + length (countOf k t)) (rate k)
+        go zero l r = absurd (omega arith)
+        go (suc f) l r = record {
           later = frameAt p (u - wireLength k t) k t ∷ h .later;
           fuel = f;
           enough = omega (arith, size-pos k);
           frames = omega (arith, h .frames);
-          octets = simp length-append (omega (arith, h .octets, body));
-          time = omega (arith, h .time);
+          octets = simp length-append (omega (arith, h .octets, body, w .room));
           rates = refl;
           few = omega (arith, h .few, size-pos k, w .room);
-          small = omega (arith, h .small, w .room);
-          slow = omega (arith, h .slow, ticks-most k);
           short = h .short;
-          same = ap (run f p) (sym (turns (got k t) e)) ∙ q;
+          same = ap (run f p) (sym (turns (got k t) e)) ∙ r;
         }
 
-    pub held-got : Held p (u - x .wire) (n + 1) (m + (x .size + x .tc)) (d + x .ticks) (x .rate)
+    pub held-got : Held p (u - x .wire) (n + 1) (q + x .count) (x .rate)
     held-got = rw (sh .is) (next-held (sh .kind) (sh .tc) (sh .ends) whole)

@@ -1,0 +1,11 @@
+use mathlib.Core.Path.{refl}
+use Rattle.wire.specs.Frame.{countOf}
+use Rattle.wire.proofs.shape_1200.Statement.{statement}
+use Rattle.wire.proofs.shape_1200.Tie as tie
+
+returns : tie.Need-returns
+unfolding countOf
+returns c = refl
+
+pub shape-1200-spec : {M : Type 1} → statement M
+shape-1200-spec = tie.close (tie.spec returns)
