@@ -1,0 +1,12 @@
+pub mod Digits
+pub mod Octets
+pub mod Placed
+pub mod Tables
+pub mod RoundTrip
+pub mod Modes
+pub mod Spelling
+pub mod Filled
+pub mod Putting
+pub mod Large
+pub mod Answers
+pub mod Theorems

@@ -1,0 +1,5 @@
+pub mod Bits
+pub mod Table
+pub mod Modes
+pub mod Answers
+pub mod Examples

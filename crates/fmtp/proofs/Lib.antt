@@ -1,0 +1,12 @@
+pub mod Flags
+pub mod SettingsLaws
+pub mod Words
+pub mod NumberLaws
+pub mod Stores
+pub mod Semicolons
+pub mod RateLaws
+pub mod WriteLaws
+pub mod ReadLaws
+pub mod ItemLaws
+pub mod TextLaws
+pub mod RoundTrip

@@ -1,0 +1,65 @@
+use borrow.Author.Needs.{needs}
+use Rattle.fmtp.proofs.put_rate.Statement.{statement}
+use Rattle.fmtp.proofs.put_rate.Tie as tie
+use mathlib.Core.Path.{ap}
+use lib.ListN.{length}
+use native.Mathlib.Omega.{arith}
+use Rattle.fmtp.proofs.RateLaws.{text-2400, text-1200, text-600, text-none}
+use Rattle.fmtp.proofs.Stores.{put-as, put-nothing}
+
+slice-aggregate-put : tie.Need-slice-aggregate-put
+slice-aggregate-put c = search needs
+
+put-requires : tie.Need-put-requires
+put-requires c κs = omega (arith, ap length (text-2400 (c .before .before .before .before .args .rate) (c .before .before .if1 .taken)))
+
+same-length : tie.Need-same-length
+same-length c = search needs
+
+returns : tie.Need-returns
+returns c = put-as (text-2400 _ (c .before .before .before .before .before .if1 .taken)) (c .before .before .put .ensures)
+
+slice-aggregate-put-2 : tie.Need-slice-aggregate-put-2
+slice-aggregate-put-2 c = search needs
+
+put-requires-2 : tie.Need-put-requires-2
+put-requires-2 c κs = omega (arith, ap length (text-1200 (c .before .before .before .before .before .args .rate) (c .before .before .if2 .taken)))
+
+same-length-2 : tie.Need-same-length-2
+same-length-2 c = search needs
+
+returns-2 : tie.Need-returns-2
+returns-2 c = put-as (text-1200 _ (c .before .before .before .before .before .if2 .taken)) (c .before .before .put2 .ensures)
+
+slice-aggregate-put-3 : tie.Need-slice-aggregate-put-3
+slice-aggregate-put-3 c = search needs
+
+put-requires-3 : tie.Need-put-requires-3
+put-requires-3 c κs = omega (arith, ap length (text-600 (c .before .before .before .before .before .before .args .rate) (c .before .before .if3 .taken)))
+
+same-length-3 : tie.Need-same-length-3
+same-length-3 c = search needs
+
+returns-3 : tie.Need-returns-3
+returns-3 c = put-as (text-600 _ (c .before .before .before .before .before .if3 .taken)) (c .before .before .put3 .ensures)
+
+returns-4 : tie.Need-returns-4
+returns-4 c = put-as (text-none _ (c .before .before .if1 .left) (c .before .if2 .left) (c .if3 .left)) (put-nothing _ _)
+
+pub put-rate-spec : {M : Type 1} → statement M
+put-rate-spec =
+    tie.close
+    (tie.spec
+    slice-aggregate-put
+    put-requires
+    same-length
+    returns
+    slice-aggregate-put-2
+    put-requires-2
+    same-length-2
+    returns-2
+    slice-aggregate-put-3
+    put-requires-3
+    same-length-3
+    returns-3
+    returns-4)

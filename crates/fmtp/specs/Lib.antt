@@ -1,0 +1,4 @@
+pub mod Settings
+pub mod Text
+pub mod Reader
+pub mod Writer
