@@ -4,8 +4,13 @@ ghost use Rattle.wire.specs.Walk.{readOf};
 ghost use Rattle.clock.specs.Time.{packetTicks, packetReport, ptimeOf, ptimeReport};
 ghost use Rattle.views.specs.View.{placeOf, augmentationOf, frameOr};
 ghost use Rattle.host.specs.Host.{Counted, HostReads, timeOf, lent, spanOf};
+ghost use Rattle.host.specs.Others.{HostParses, HostWritesSettings, HostUnpacks, HostPacks};
 use clock::PacketMillis;
 use clock::PacketTicks;
+use fields::Packed;
+use fields::Unpacked;
+use fmtp::Parsed;
+use fmtp::Written;
 use payload::Reading;
 use payload::Walked;
 use views::Place;
@@ -33,6 +38,31 @@ pub struct MoultPart {
     pub stand_in: u32,
     pub start: usize,
     pub length: usize,
+}
+
+// A writing: number and place, and the octets (or, of unpacking, the fields) written.
+#[repr(C)]
+pub struct MoultWriting {
+    pub number: u32,
+    pub place: usize,
+    pub octets: usize,
+}
+
+// Settings: one to three rates, the preferred one first, unused places 0; and tcmax.
+#[repr(C)]
+pub struct MoultSettings {
+    pub first: u16,
+    pub second: u16,
+    pub third: u16,
+    pub tcmax: u16,
+}
+
+// A setting text that was read: number and place, and its settings.
+#[repr(C)]
+pub struct MoultParsed {
+    pub number: u32,
+    pub place: usize,
+    pub settings: MoultSettings,
 }
 
 // The host's count: the number of frames, or minus the number of the refusal. Only an empty payload is 0.
@@ -155,6 +185,110 @@ pub extern "C" fn moult_frame_or(payload: &[u8], row: usize, stand_in: &[u8]) ->
             stand_in: 0,
             start,
             length: shape.wire,
+        },
+    }
+}
+
+// Reads a setting text.
+#[no_mangle]
+pub extern "C" fn moult_settings_read(text: &[u8]) -> MoultParsed
+    ensures { λ r. ⌜ HostParses (now (text .entry)) r ⌝ }
+{
+    let answer = fmtp::read(text);
+    match answer {
+        Parsed::Accepted(s) => MoultParsed {
+            number: 0,
+            place: 0,
+            settings: MoultSettings {
+                first: s.first,
+                second: s.second,
+                third: s.third,
+                tcmax: s.tcmax,
+            },
+        },
+        Parsed::Refused(refusal) => MoultParsed {
+            number: refusal.number as u32,
+            place: refusal.place,
+            settings: MoultSettings {
+                first: 0,
+                second: 0,
+                third: 0,
+                tcmax: 0,
+            },
+        },
+    }
+}
+
+// Writes settings as a setting text.
+#[no_mangle]
+pub extern "C" fn moult_settings_write(
+    first: u16,
+    second: u16,
+    third: u16,
+    tcmax: u16,
+    out: &mut [u8],
+) -> MoultWriting
+    ensures { λ r. ⌜ HostWritesSettings (record { first = first; second = second; third = third; tcmax = tcmax }) (now (out .entry)) r (now (out .exit)) ⌝ }
+{
+    let answer = fmtp::write(
+        fmtp::Settings {
+            first,
+            second,
+            third,
+            tcmax,
+        },
+        out,
+    );
+    match answer {
+        Written::Octets(n) => MoultWriting {
+            number: 0,
+            place: 0,
+            octets: n,
+        },
+        Written::Refused(refusal) => MoultWriting {
+            number: refusal.number as u32,
+            place: refusal.place,
+            octets: 0,
+        },
+    }
+}
+
+// Unpacks the fields of a 600 bps body; `octets` of the answer is the number of fields.
+#[no_mangle]
+pub extern "C" fn moult_unpack(mode: u8, body: &[u8], fields: &mut [u16]) -> MoultWriting
+    ensures { λ r. ⌜ HostUnpacks mode (now (body .entry)) (now (fields .entry)) r (now (fields .exit)) ⌝ }
+{
+    let answer = fields::unpack(mode, body, fields);
+    match answer {
+        Unpacked::Fields(n) => MoultWriting {
+            number: 0,
+            place: 0,
+            octets: n,
+        },
+        Unpacked::Refused(refusal) => MoultWriting {
+            number: refusal.number as u32,
+            place: refusal.place,
+            octets: 0,
+        },
+    }
+}
+
+// Packs fields into a 600 bps body.
+#[no_mangle]
+pub extern "C" fn moult_pack(mode: u8, fields: &[u16], out: &mut [u8]) -> MoultWriting
+    ensures { λ r. ⌜ HostPacks mode (now (fields .entry)) (now (out .entry)) r (now (out .exit)) ⌝ }
+{
+    let answer = fields::pack(mode, fields, out);
+    match answer {
+        Packed::Octets(n) => MoultWriting {
+            number: 0,
+            place: 0,
+            octets: n,
+        },
+        Packed::Refused(refusal) => MoultWriting {
+            number: refusal.number as u32,
+            place: refusal.place,
+            octets: 0,
         },
     }
 }
