@@ -1,7 +1,10 @@
--- Settings and fields in the structs that a C host is given: the library's answer, its promise, and its numbers.
+-- The writer, settings and fields in the structs that a C host is given: the library's answer, its promise, and its numbers.
 use mathlib.Core.Path.{_≡_}
 use mathlib.Core.List.{List}
 use Prim.Native.Nat.{ℕ}
+use Rattle.writer.specs.Answers.{Report as WritingReport, reportOf}
+use Rattle.writer.specs.Promise.{Writes as WritesPayload}
+use Rattle.writer.specs.declared.Writing.{Writing}
 use Rattle.fmtp.specs.Reader.{Report, reported, Reads}
 use Rattle.fmtp.specs.Writer.{WriteReport, writeReported, Writes}
 use Rattle.fmtp.specs.declared.Settings.{Settings}
@@ -29,6 +32,16 @@ textWriting a = record { number = a .number; place = a .place; octets = a .octet
 -- the numbers of packing or unpacking, as the struct
 abbrev pub fieldWriting : Outcome → MoultWriting
 fieldWriting a = record { number = a .number; place = a .place; octets = a .count }
+
+-- the numbers of a written payload, as the struct
+abbrev pub payloadWriting : WritingReport → MoultWriting
+payloadWriting a = record { number = a .number; place = a .place; octets = a .octets }
+
+-- what writing the rows ns and bodies bs into a buffer promises the host
+pub record HostWrites (ns bs before : List ℕ) (x : MoultWriting) (after : List ℕ) : Type 0 where
+  pub answer : Writing
+  pub promise : WritesPayload ns bs before answer after
+  pub is : x ≡ payloadWriting (reportOf answer)
 
 -- what reading the setting text t promises the host
 pub record HostParses (t : List ℕ) (x : MoultParsed) : Type 0 where

@@ -4,7 +4,7 @@ ghost use Rattle.wire.specs.Walk.{readOf};
 ghost use Rattle.clock.specs.Time.{packetTicks, packetReport, ptimeOf, ptimeReport};
 ghost use Rattle.views.specs.View.{placeOf, augmentationOf, frameOr};
 ghost use Rattle.host.specs.Host.{Counted, HostReads, timeOf, lent, spanOf};
-ghost use Rattle.host.specs.Others.{HostParses, HostWritesSettings, HostUnpacks, HostPacks};
+ghost use Rattle.host.specs.Others.{HostWrites, HostParses, HostWritesSettings, HostUnpacks, HostPacks};
 use clock::PacketMillis;
 use clock::PacketTicks;
 use fields::Packed;
@@ -14,6 +14,7 @@ use fmtp::Written;
 use payload::Reading;
 use payload::Walked;
 use views::Place;
+use writer::Writing;
 
 // A reading: document 01's number (0 where accepted) and place, rows and body octets.
 #[repr(C)]
@@ -94,6 +95,26 @@ pub extern "C" fn moult_read(payload: &[u8], rows: &mut [u16], bodies: &mut [u8]
             number: refusal.number as u32,
             place: refusal.place,
             rows: 0,
+            octets: 0,
+        },
+    }
+}
+
+// Writes rows and bodies as a payload.
+#[no_mangle]
+pub extern "C" fn moult_write(rows: &[u16], bodies: &[u8], out: &mut [u8]) -> MoultWriting
+    ensures { λ r. ⌜ HostWrites (now (rows .entry)) (now (bodies .entry)) (now (out .entry)) r (now (out .exit)) ⌝ }
+{
+    let answer = writer::write(rows, bodies, out);
+    match answer {
+        Writing::Written(n) => MoultWriting {
+            number: 0,
+            place: 0,
+            octets: n,
+        },
+        Writing::Refused(refusal) => MoultWriting {
+            number: refusal.number as u32,
+            place: refusal.place,
             octets: 0,
         },
     }

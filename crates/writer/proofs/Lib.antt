@@ -1,0 +1,9 @@
+pub mod Tests
+pub mod Layouts
+pub mod Sifted
+pub mod Framed
+pub mod Passed
+pub mod Copied
+pub mod Walked
+pub mod Trips
+pub mod Staged

@@ -1,0 +1,22 @@
+use mathlib.Core.Path.{ap, sym, _∙_}
+use Rattle.writer.specs.Answers.{rowAnswerOf}
+use Rattle.writer.proofs.Sifted.{check-odd, check-many, check-rows}
+use Rattle.writer.proofs.Passed.{checks}
+use borrow.Author.Needs.{needs}
+use Rattle.writer.proofs.check_rows.Statement.{statement}
+use Rattle.writer.proofs.check_rows.Tie as tie
+
+returns : tie.Need-returns
+returns c = checks _ _ (ap rowAnswerOf (sym (check-odd _ (c .if1 .taken))))
+
+returns-2 : tie.Need-returns-2
+returns-2 c = checks _ _ (ap rowAnswerOf (sym (check-many _ (c .before .if1 .left) (c .if2 .taken))))
+
+row-by-row-requires : tie.Need-row-by-row-requires
+row-by-row-requires c κs = search needs
+
+returns-3 : tie.Need-returns-3
+returns-3 c = checks _ _ (c .row-by-row .ensures ∙ ap rowAnswerOf (sym (check-rows _ (c .before .before .if1 .left) (c .before .if2 .left))))
+
+pub check-rows-spec : {M : Type 1} → statement M
+check-rows-spec = tie.close (tie.spec returns returns-2 row-by-row-requires returns-3)
