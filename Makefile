@@ -13,6 +13,4 @@ list: target/bin/list
 target/bin/list: FORCE
 	rt check list
 
-FORCE:
-
--include hosts/host.mk
+include hosts/host.mk

@@ -1,0 +1,68 @@
+/* Counts and lists a file of payloads, each behind its length in groups of seven bits, low group
+   first, 128 meaning "more", shortest form, at most two groups. For each payload a line: its
+   number, "ok", frames and ticks; or its number, "refused", refusal number and place. Then "end"
+   (or "cut", where a length is bad or the file ends inside a payload) and the number of payloads. */
+#include "moult.h"
+
+#include <stdio.h>
+
+enum { LENGTH_END, LENGTH_BAD, LENGTH_GOOD };
+
+static int read_length(FILE *in, size_t *length)
+{
+    int low = getc(in);
+    if (low == EOF)
+        return LENGTH_END;
+    *length = (size_t)low;
+    if (low < 128)
+        return LENGTH_GOOD;
+    int high = getc(in);
+    /* A high group of 0 is not the shortest form, one of 128 or more calls for a third group. */
+    if (high == EOF || high == 0 || high >= 128)
+        return LENGTH_BAD;
+    *length = (size_t)(low - 128) + 128 * (size_t)high;
+    return *length <= MOULT_MAX_OCTETS ? LENGTH_GOOD : LENGTH_BAD;
+}
+
+static void print_line(unsigned long number, const uint8_t *payload, size_t length)
+{
+    moult_time ticks = moult_packet_ticks(payload, length);
+    if (ticks.number != MOULT_ACCEPTED)
+        printf("%lu refused %u %zu\n", number, (unsigned)ticks.number, ticks.place);
+    else
+        printf("%lu ok %d %zu\n", number, (int)moult_count(payload, length), ticks.time);
+}
+
+static void list(FILE *in)
+{
+    static uint8_t payload[MOULT_MAX_OCTETS];
+    unsigned long lines = 0;
+    size_t length = 0;
+    int answer;
+    while ((answer = read_length(in, &length)) == LENGTH_GOOD) {
+        if (fread(payload, 1, length, in) != length) {
+            answer = LENGTH_BAD;
+            break;
+        }
+        print_line(++lines, payload, length);
+    }
+    printf("%s %lu\n", answer == LENGTH_END ? "end" : "cut", lines);
+}
+
+int main(int argc, char **argv)
+{
+    if (argc > 2) {
+        fprintf(stderr, "usage: %s [file]\n", argv[0]);
+        return 2;
+    }
+    FILE *in = argc == 2 ? fopen(argv[1], "rb") : stdin;
+    if (in == NULL) {
+        perror(argv[1]);
+        return 1;
+    }
+    list(in);
+    int failed = ferror(in) || fflush(stdout) != 0;
+    if (in != stdin)
+        fclose(in);
+    return failed ? 1 : 0;
+}

@@ -1,0 +1,91 @@
+# The library for C and Rust hosts: the static library, its tests, the benchmark and the fuzzer.
+# MOULT_LIB names another build of the static library to test or measure.
+
+MOULT_LIB ?= target/staticlib/libhost.a
+HOST_OUT := target/host
+CARGO_OUT := $(CURDIR)/target/cargo
+CARGO_ENV := MOULT_LIB=$(abspath $(MOULT_LIB)) CARGO_TARGET_DIR=$(CARGO_OUT)
+C_FLAGS := -std=c11 -O2 -Wall -Wextra -Wpedantic -Werror -Iinclude
+CXX_FLAGS := -std=c++17 -O2 -Wall -Wextra -Wpedantic -Werror -Iinclude
+SECONDS ?= 60
+
+# rt is to run once at a time.
+.NOTPARALLEL:
+.PHONY: host host-test host-c-test host-rust-test example bench fuzz
+
+host:
+	rt staticlib host
+
+target/staticlib/libhost.a: $(wildcard crates.txt crates/*/src/*.rt)
+	rt staticlib host
+
+$(HOST_OUT):
+	mkdir -p $@
+
+host-test: host-c-test host-rust-test
+
+host-c-test: $(HOST_OUT)/abi_c $(HOST_OUT)/abi_cxx $(HOST_OUT)/list
+	$(HOST_OUT)/abi_c
+	$(HOST_OUT)/abi_cxx
+	tests/c/list_test.sh $(HOST_OUT)/list
+
+host-rust-test: $(MOULT_LIB)
+	$(CARGO_ENV) cargo test --offline --release --manifest-path hosts/rust/Cargo.toml
+
+# Built each time: MOULT_LIB may name another library than the last time.
+FORCE:
+
+$(HOST_OUT)/abi_c: tests/c/abi_test.c include/moult.h $(MOULT_LIB) FORCE | $(HOST_OUT)
+	gcc $(C_FLAGS) $< $(MOULT_LIB) -o $@
+
+$(HOST_OUT)/abi_cxx: tests/c/abi_test.c include/moult.h $(MOULT_LIB) FORCE | $(HOST_OUT)
+	g++ $(CXX_FLAGS) -x c++ $< -x none $(MOULT_LIB) -o $@
+
+example: $(HOST_OUT)/list
+
+$(HOST_OUT)/list: examples/c/list.c include/moult.h $(MOULT_LIB) FORCE | $(HOST_OUT)
+	gcc $(C_FLAGS) $< $(MOULT_LIB) -o $@
+
+# The benchmark: the library beside careful C and safe Rust. Not part of the gate.
+# gcc would turn a copy of bounded length into `rep movsq`, slower than the C library's memcpy.
+REFERENCE_FLAGS := -std=c11 -O3 -mmemcpy-strategy=libcall:-1:noalign -Wall -Wextra -Werror -Iinclude
+REFERENCE_C := payload settings fields
+REFERENCE_O := $(REFERENCE_C:%=$(HOST_OUT)/reference_%.o)
+
+$(HOST_OUT)/reference_%.o: bench/c/%.c bench/c/reference.h include/moult.h | $(HOST_OUT)
+	gcc $(REFERENCE_FLAGS) -c $< -o $@
+
+$(HOST_OUT)/libreference.a: $(REFERENCE_O)
+	rm -f $@
+	ar rcs $@ $^
+
+$(HOST_OUT)/c_list: bench/c/list.c $(HOST_OUT)/libreference.a
+	gcc $(REFERENCE_FLAGS) -D_GNU_SOURCE $^ -o $@
+
+BENCH_ENV = $(CARGO_ENV) MOULT_REFERENCE=$(abspath $(HOST_OUT)/libreference.a)
+
+bench: $(MOULT_LIB) $(HOST_OUT)/libreference.a $(HOST_OUT)/c_list
+	$(BENCH_ENV) cargo build --offline --release --quiet --manifest-path bench/rust/Cargo.toml
+	$(CARGO_OUT)/release/bench target/bin/list $(HOST_OUT)/c_list $(CARGO_OUT)/release/list $(HOST_OUT)/listing
+
+# The fuzzer: the library beside a second C reading, by libFuzzer. Not part of the gate.
+CLANG ?= clang
+FUZZ_OUT := $(HOST_OUT)/fuzz
+FUZZ_C := fuzz/fuzz.c fuzz/second_payload.c fuzz/second_small.c
+
+fuzz: $(FUZZ_OUT)/fuzz $(FUZZ_OUT)/make_seeds
+	mkdir -p $(FUZZ_OUT)/corpus
+	$(FUZZ_OUT)/make_seeds fuzz/seeds.txt $(FUZZ_OUT)/corpus
+	$(FUZZ_OUT)/fuzz -max_total_time=$(SECONDS) -max_len=1500 -print_final_stats=1 \
+		-artifact_prefix=$(FUZZ_OUT)/ $(FUZZ_OUT)/corpus
+
+$(FUZZ_OUT)/fuzz: $(FUZZ_C) fuzz/second.h include/moult.h $(MOULT_LIB) FORCE
+	@command -v $(CLANG) > /dev/null || { \
+		echo "the fuzzer needs clang with libFuzzer (Debian: clang and libclang-rt-dev); CLANG names it" >&2; \
+		exit 1; }
+	mkdir -p $(FUZZ_OUT)
+	$(CLANG) -std=gnu11 -O2 -g -Wall -Wextra -Iinclude -fsanitize=fuzzer,address,undefined $(FUZZ_C) $(MOULT_LIB) -o $@
+
+$(FUZZ_OUT)/make_seeds: fuzz/make_seeds.c
+	mkdir -p $(FUZZ_OUT)
+	gcc $(C_FLAGS) $< -o $@

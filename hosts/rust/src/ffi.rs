@@ -1,0 +1,189 @@
+//! The only module with unsafe code: include/moult.h's declarations, and each function over slices.
+//!
+//! Every call is sound for any slices: the library reads and writes within the lengths lent and
+//! keeps no pointer.
+#![allow(unsafe_code)]
+
+#[repr(C)]
+pub struct Reading {
+    pub number: u32,
+    pub place: usize,
+    pub rows: usize,
+    pub octets: usize,
+}
+
+#[repr(C)]
+pub struct Writing {
+    pub number: u32,
+    pub place: usize,
+    pub octets: usize,
+}
+
+#[repr(C)]
+pub struct Time {
+    pub number: u32,
+    pub place: usize,
+    pub time: usize,
+}
+
+#[repr(C)]
+pub struct Part {
+    pub stand_in: u32,
+    pub start: usize,
+    pub length: usize,
+}
+
+#[repr(C)]
+pub struct SettingsReading {
+    pub number: u32,
+    pub place: usize,
+    pub settings: crate::Settings,
+}
+
+unsafe extern "C" {
+    fn moult_count(payload: *const u8, n: usize) -> i32;
+    fn moult_read(
+        payload: *const u8,
+        n: usize,
+        rows: *mut u16,
+        rows_n: usize,
+        bodies: *mut u8,
+        bodies_n: usize,
+    ) -> Reading;
+    fn moult_write(
+        rows: *const u16,
+        rows_n: usize,
+        bodies: *const u8,
+        bodies_n: usize,
+        out: *mut u8,
+        out_n: usize,
+    ) -> Writing;
+    fn moult_packet_ticks(payload: *const u8, n: usize) -> Time;
+    fn moult_ptime(rate: u32, frames: usize) -> Time;
+    fn moult_augmentation(payload: *const u8, n: usize, row: usize) -> Part;
+    fn moult_frame_or(
+        payload: *const u8,
+        n: usize,
+        row: usize,
+        stand_in: *const u8,
+        stand_in_n: usize,
+    ) -> Part;
+    fn moult_settings_read(text: *const u8, n: usize) -> SettingsReading;
+    fn moult_settings_write(
+        first: u16,
+        second: u16,
+        third: u16,
+        tcmax: u16,
+        out: *mut u8,
+        out_n: usize,
+    ) -> Writing;
+    fn moult_unpack(
+        mode: u8,
+        body: *const u8,
+        body_n: usize,
+        fields: *mut u16,
+        fields_n: usize,
+    ) -> Writing;
+    fn moult_pack(
+        mode: u8,
+        fields: *const u16,
+        fields_n: usize,
+        out: *mut u8,
+        out_n: usize,
+    ) -> Writing;
+}
+
+pub fn count(payload: &[u8]) -> i32 {
+    unsafe { moult_count(payload.as_ptr(), payload.len()) }
+}
+
+pub fn read(payload: &[u8], rows: &mut [u16], bodies: &mut [u8]) -> Reading {
+    unsafe {
+        moult_read(
+            payload.as_ptr(),
+            payload.len(),
+            rows.as_mut_ptr(),
+            rows.len(),
+            bodies.as_mut_ptr(),
+            bodies.len(),
+        )
+    }
+}
+
+pub fn write(rows: &[u16], bodies: &[u8], out: &mut [u8]) -> Writing {
+    unsafe {
+        moult_write(
+            rows.as_ptr(),
+            rows.len(),
+            bodies.as_ptr(),
+            bodies.len(),
+            out.as_mut_ptr(),
+            out.len(),
+        )
+    }
+}
+
+pub fn packet_ticks(payload: &[u8]) -> Time {
+    unsafe { moult_packet_ticks(payload.as_ptr(), payload.len()) }
+}
+
+pub fn ptime(rate: u32, frames: usize) -> Time {
+    unsafe { moult_ptime(rate, frames) }
+}
+
+pub fn augmentation(payload: &[u8], row: usize) -> Part {
+    unsafe { moult_augmentation(payload.as_ptr(), payload.len(), row) }
+}
+
+pub fn frame_or(payload: &[u8], row: usize, stand_in: &[u8]) -> Part {
+    unsafe {
+        moult_frame_or(
+            payload.as_ptr(),
+            payload.len(),
+            row,
+            stand_in.as_ptr(),
+            stand_in.len(),
+        )
+    }
+}
+
+pub fn settings_read(text: &[u8]) -> SettingsReading {
+    unsafe { moult_settings_read(text.as_ptr(), text.len()) }
+}
+
+pub fn settings_write(settings: crate::Settings, out: &mut [u8]) -> Writing {
+    unsafe {
+        moult_settings_write(
+            settings.first,
+            settings.second,
+            settings.third,
+            settings.tcmax,
+            out.as_mut_ptr(),
+            out.len(),
+        )
+    }
+}
+
+pub fn unpack(mode: u8, body: &[u8], fields: &mut [u16]) -> Writing {
+    unsafe {
+        moult_unpack(
+            mode,
+            body.as_ptr(),
+            body.len(),
+            fields.as_mut_ptr(),
+            fields.len(),
+        )
+    }
+}
+
+pub fn pack(mode: u8, fields: &[u16], out: &mut [u8]) -> Writing {
+    unsafe {
+        moult_pack(
+            mode,
+            fields.as_ptr(),
+            fields.len(),
+            out.as_mut_ptr(),
+            out.len(),
+        )
+    }
+}

@@ -1,0 +1,33 @@
+//! 600 bps fields in modes 1 to 3 (RFC 8130).
+#![forbid(unsafe_code)]
+
+use crate::ffi;
+use crate::refusal::{Refusal, answer};
+
+/// Unpacks a 600 bps body of 7 octets into the fields of the mode, and gives their number:
+/// 11 in mode 1, 10 in modes 2 and 3.
+///
+/// ```
+/// let mut fields = [0; 11];
+/// assert_eq!(moult::unpack(1, &[1, 0, 0, 0, 0, 0, 0], &mut fields), Ok(11));
+/// assert_eq!(fields[0], 16); // Voicing: its highest bit is B_01
+/// ```
+pub fn unpack(mode: u8, body: &[u8], fields: &mut [u16]) -> Result<usize, Refusal> {
+    let writing = ffi::unpack(mode, body, fields);
+    answer(writing.number, writing.place, writing.octets)
+}
+
+/// Packs exactly the fields of the mode into a body, and gives its 7 octets.
+///
+/// ```
+/// use moult::{Reason, Refusal};
+/// let mut body = [0; 7];
+/// assert_eq!(moult::pack(1, &[0, 0, 0, 0, 0, 0, 0, 0, 0, 0, 1], &mut body), Ok(7));
+/// assert_eq!(body, [0, 0, 0, 0, 0, 0, 0x20]);
+/// let refused = moult::pack(2, &[32, 0, 0, 0, 0, 0, 0, 0, 0, 0], &mut body);
+/// assert_eq!(refused, Err(Refusal { reason: Reason::FieldTooLarge, place: 0 }));
+/// ```
+pub fn pack(mode: u8, fields: &[u16], out: &mut [u8]) -> Result<usize, Refusal> {
+    let writing = ffi::pack(mode, fields, out);
+    answer(writing.number, writing.place, writing.octets)
+}

@@ -1,0 +1,36 @@
+//! Time on the clock and time in settings: two units, kept apart.
+#![forbid(unsafe_code)]
+
+use crate::ffi;
+use crate::refusal::{Refusal, answer};
+
+/// Clock ticks of 1/8000 second.
+#[derive(Clone, Copy, Debug, PartialEq, Eq, PartialOrd, Ord, Hash)]
+pub struct Ticks(pub usize);
+
+/// Milliseconds.
+#[derive(Clone, Copy, Debug, PartialEq, Eq, PartialOrd, Ord, Hash)]
+pub struct Millis(pub usize);
+
+/// The ticks that a payload's coder frames last; comfort noise adds none.
+///
+/// ```
+/// assert_eq!(moult::packet_ticks(&[0; 7]), Ok(moult::Ticks(180)));
+/// assert_eq!(moult::packet_ticks(&[0, 0xA0]), Ok(moult::Ticks(0)));
+/// assert!(moult::packet_ticks(&[0xFF]).is_err());
+/// ```
+pub fn packet_ticks(payload: &[u8]) -> Result<Ticks, Refusal> {
+    let time = ffi::packet_ticks(payload);
+    answer(time.number, time.place, Ticks(time.time))
+}
+
+/// The ptime of 1 to 200 frames at rate 2400, 1200 or 600, rounded up.
+///
+/// ```
+/// assert_eq!(moult::ptime(2400, 5), Ok(moult::Millis(113)));
+/// assert!(moult::ptime(2400, 201).is_err());
+/// ```
+pub fn ptime(rate: u32, frames: usize) -> Result<Millis, Refusal> {
+    let time = ffi::ptime(rate, frames);
+    answer(time.number, time.place, Millis(time.time))
+}

@@ -1,0 +1,174 @@
+//! 600 bps fields, unpacked and packed, against RFC 8130's table bit by bit.
+
+use crate::bit_table::{Table, table};
+use crate::guard::{Lent, number, octet};
+use crate::parts;
+use crate::prng::Prng;
+use crate::walk::Refusal;
+
+const UNPACKED: usize = 250_000;
+const PACKED: usize = 250_000;
+
+fn unpacked(mode: u8, body: &[u8], room: usize) -> Result<Vec<u16>, Refusal> {
+    let table = table(mode).ok_or((16, 0))?;
+    if body.len() != 7 {
+        return Err((14, 7));
+    }
+    if body[6] > 63 {
+        return Err((3, 6));
+    }
+    if room < table.widths.len() {
+        return Err((9, table.widths.len()));
+    }
+    Ok(table.unpacked(body))
+}
+
+fn first_too_large(table: &Table, fields: &[u16]) -> Option<usize> {
+    let widths = table.widths.iter();
+    widths
+        .zip(fields)
+        .position(|(width, field)| u32::from(*field) >= 1 << width)
+}
+
+fn packed(mode: u8, fields: &[u16], room: usize) -> Result<Vec<u8>, Refusal> {
+    let table = table(mode).ok_or((16, 0))?;
+    if fields.len() != table.widths.len() {
+        return Err((14, table.widths.len()));
+    }
+    if let Some(field) = first_too_large(&table, fields) {
+        return Err((17, field));
+    }
+    if room < 7 {
+        return Err((10, 7));
+    }
+    Ok(table.packed(fields))
+}
+
+fn compare_unpack(mode: u8, body: &[u8], room: usize, prng: &mut Prng) {
+    let lent = Lent::holding(body, prng, octet);
+    let mut fields = Lent::new(room, prng, number);
+    let got = parts(moult::unpack(mode, lent.shared(), fields.part()));
+    lent.unchanged();
+    match unpacked(mode, body, room) {
+        Ok(wanted) => {
+            assert_eq!(got, (0, 0, wanted.len()), "unpacking {mode} {body:02x?}");
+            fields.holds_only(&wanted);
+        }
+        Err((number, place)) => {
+            assert_eq!(
+                got,
+                (number, place, 0),
+                "unpacking {mode} {body:02x?} to {room}"
+            );
+            fields.unchanged();
+        }
+    }
+}
+
+fn compare_pack(mode: u8, fields: &[u16], room: usize, prng: &mut Prng) {
+    let lent = Lent::holding(fields, prng, number);
+    let mut out = Lent::new(room, prng, octet);
+    let got = parts(moult::pack(mode, lent.shared(), out.part()));
+    lent.unchanged();
+    match packed(mode, fields, room) {
+        Ok(wanted) => {
+            assert_eq!(got, (0, 0, 7), "packing {mode} {fields:?}");
+            out.holds_only(&wanted);
+        }
+        Err((number, place)) => {
+            assert_eq!(
+                got,
+                (number, place, 0),
+                "packing {mode} {fields:?} to {room}"
+            );
+            out.unchanged();
+        }
+    }
+}
+
+fn a_mode(prng: &mut Prng) -> u8 {
+    match prng.below(12) {
+        0 => prng.octet(),
+        _ => prng.within(1, 3) as u8,
+    }
+}
+
+/// Fields of the mode's widths, or of some, at times one of them too large.
+fn some_fields(mode: u8, prng: &mut Prng) -> Vec<u16> {
+    let widths = table(mode).map_or(vec![4; 10], |table| table.widths);
+    let mut fields: Vec<u16> = widths
+        .iter()
+        .map(|width| prng.below(1 << width) as u16)
+        .collect();
+    if prng.one_in(4) {
+        let field = prng.below(fields.len());
+        fields[field] = prng.pick(&[1 << widths[field], 128, 255, 256, 65535]);
+    }
+    if prng.one_in(10) {
+        fields.resize(prng.below(14), 0);
+    }
+    fields
+}
+
+#[test]
+fn unpack() {
+    let mut prng = Prng::new(41);
+    for _ in 0..UNPACKED {
+        let octets = if prng.one_in(10) { prng.below(10) } else { 7 };
+        let mut body = vec![0; octets];
+        prng.fill(&mut body);
+        if prng.below(6) > 0 && octets == 7 {
+            body[6] &= 63;
+        }
+        let room = prng.within(8, 14);
+        let mode = a_mode(&mut prng);
+        compare_unpack(mode, &body, room, &mut prng);
+    }
+}
+
+#[test]
+fn pack() {
+    let mut prng = Prng::new(42);
+    for _ in 0..PACKED {
+        let mode = a_mode(&mut prng);
+        let fields = some_fields(mode, &mut prng);
+        let room = prng.within(5, 10);
+        compare_pack(mode, &fields, room, &mut prng);
+    }
+}
+
+/// Each bit alone, each mode, each length of body, field list and room.
+#[test]
+fn corners() {
+    let mut prng = Prng::new(43);
+    for mode in 0..=255 {
+        for bit in 0..56 {
+            let mut body = [0; 7];
+            body[bit / 8] = 1 << (bit % 8);
+            compare_unpack(mode, &body, 11, &mut prng);
+        }
+        for octets in 0..20 {
+            compare_unpack(mode, &vec![0; octets], 11, &mut prng);
+            compare_unpack(mode, &[0; 7], octets, &mut prng);
+            compare_pack(mode, &vec![0; octets], 7, &mut prng);
+            compare_pack(mode, &[0; 10], octets, &mut prng);
+            compare_pack(mode, &[0; 11], octets, &mut prng);
+        }
+    }
+}
+
+/// Each field alone, at every value up to well past its width.
+#[test]
+fn each_field() {
+    let mut prng = Prng::new(44);
+    for mode in 1..=3 {
+        let fields = table(mode).map_or(0, |table| table.widths.len());
+        for field in 0..fields {
+            for value in (0..=1024).chain([32768, 65535]) {
+                let mut list = vec![0; fields];
+                list[field] = value;
+                compare_pack(mode, &list, 7, &mut prng);
+            }
+        }
+    }
+}

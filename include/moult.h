@@ -1,0 +1,171 @@
+/* The payload library as a C or C++ host calls it: link libhost.a, which needs no other library.
+
+   Every call is a function of what it is lent. Buffers stay the caller's, nothing is kept after
+   the call, nothing is allocated, and calls from several threads do not meet. Any pointer may be
+   NULL where its length is 0. Buffers that are written must not overlap any other buffer lent in
+   the same call. Any octets of any length may be handed in.
+
+   An answer with number 0 (and place 0) is accepted: the first places of the lent buffers are
+   filled, as many as the answer reports, and everything beyond them is unchanged. Any other number
+   is a refusal: its place says where or how much, all other values are 0, and no lent memory has
+   changed. */
+#ifndef MOULT_H
+#define MOULT_H
+
+#include <stddef.h>
+#include <stdint.h>
+
+#ifdef __cplusplus
+extern "C" {
+#endif
+
+/* Most octets of a payload, and most frames in one. */
+#define MOULT_MAX_OCTETS 1400
+#define MOULT_MAX_FRAMES 200
+/* Octets that hold any setting text written, numbers that hold the fields of any mode, and the
+   octets of a 600 bps body. */
+#define MOULT_MAX_SETTINGS 31
+#define MOULT_MAX_FIELDS 11
+#define MOULT_BODY_600 7
+
+/* Kinds of frames, the first number of a row. */
+enum {
+    MOULT_KIND_2400 = 1,          /* body of 7 octets, last at most 63 */
+    MOULT_KIND_1200 = 2,          /* body of 11 octets, last at most 1 */
+    MOULT_KIND_600 = 3,           /* body of 7 octets, last at most 63 */
+    MOULT_KIND_COMFORT_NOISE = 4, /* body of 2 octets, last at most 31 */
+    MOULT_KIND_TSVCIS = 5         /* body of 7 + TC octets, the seventh at most 63 */
+};
+
+/* Refusal numbers. "Unread" is the number of octets up to the end of the refused frame. */
+enum {
+    MOULT_ACCEPTED = 0,
+    MOULT_TOO_LONG = 1,                /* place: 1400 */
+    MOULT_FRAME_CUT = 2,               /* place: unread */
+    MOULT_RESERVED_BITS = 3,           /* place: unread; writer and fields: index in the body */
+    MOULT_LONG_COUNT_ZERO = 4,         /* place: unread */
+    MOULT_LONG_COUNT_SHORT_RANGE = 5,  /* long count of 15 to 77; place: unread */
+    MOULT_COMFORT_NOISE_NOT_LAST = 6,  /* place: unread; writer: row, from 0 */
+    MOULT_AUGMENTATION_NOT_2400 = 7,   /* place: unread */
+    MOULT_RATES_MIXED = 8,             /* place: unread; writer: row */
+    MOULT_NUMBERS_TOO_SHORT = 9,       /* number list; place: rows needed, or fields needed */
+    MOULT_OCTETS_TOO_SHORT = 10,       /* octet buffer; place: octets needed */
+    MOULT_ODD_ROWS = 11,               /* place: length of the row list */
+    MOULT_UNKNOWN = 12,                /* kind, rate or number of frames; place: writer row, else 0 */
+    MOULT_WRONG_TC = 13,               /* place: row */
+    MOULT_WRONG_LENGTH = 14,           /* place: length needed */
+    MOULT_WRONG_SETTINGS = 15,         /* place: 0 */
+    MOULT_WRONG_MODE = 16,             /* place: 0 */
+    MOULT_FIELD_TOO_LARGE = 17         /* place: field, from 0 */
+};
+
+/* A reading: rows (two numbers each) and body octets put into the lent buffers. */
+typedef struct {
+    uint32_t number;
+    size_t place;
+    size_t rows;
+    size_t octets;
+} moult_reading;
+
+/* A writing: octets put into the lent buffer; for moult_unpack, fields. */
+typedef struct {
+    uint32_t number;
+    size_t place;
+    size_t octets;
+} moult_writing;
+
+/* A time: ticks of 1/8000 second (moult_packet_ticks) or milliseconds (moult_ptime). */
+typedef struct {
+    uint32_t number;
+    size_t place;
+    size_t time;
+} moult_time;
+
+/* A part of the payload or, where stand_in is 1, of the stand-in: `length` octets from `start` on. */
+typedef struct {
+    uint32_t stand_in;
+    size_t start;
+    size_t length;
+} moult_part;
+
+/* One to three different rates out of 2400, 1200 and 600, the preferred one first, unused places
+   0 and last; tcmax is 1 to 255. */
+typedef struct {
+    uint16_t first;
+    uint16_t second;
+    uint16_t third;
+    uint16_t tcmax;
+} moult_settings;
+
+/* Settings read; all 0 where refused. */
+typedef struct {
+    uint32_t number;
+    size_t place;
+    moult_settings settings;
+} moult_settings_reading;
+
+/* Counts the frames of a payload of n octets: 0 to 200, or minus the refusal number (-1 to -8).
+   Only the empty payload is 0. */
+int32_t moult_count(const uint8_t *payload, size_t n);
+
+/* Reads a payload of n octets: for each frame, oldest first, its kind and TC (0 for kinds other
+   than TSVCIS) into rows, and its body, without rate code bits and count octets, into bodies.
+   Refuses 1, then from the last frame to the first 2, 4, 5, 3, 2, 6, 7, 8 with the place "unread";
+   then 9 with the rows needed if rows_n, halved and rounded down, is too small, and 10 with the
+   octets needed if bodies_n is. 400 numbers and 1,400 octets are enough for any payload. */
+moult_reading moult_read(const uint8_t *payload, size_t n, uint16_t *rows, size_t rows_n,
+                         uint8_t *bodies, size_t bodies_n);
+
+/* Writes the payload of rows (rows_n numbers, two a frame) and bodies (one after another) into out.
+   Refuses 11 with rows_n; 1 for more than 200 rows; row by row, with the row as place, 12, 13, 6
+   (the comfort noise row that another follows), 8 (the first row whose rate differs); 1 for the
+   total; 14 with the bodies' length needed; 3 with the index of the first bad body end in bodies;
+   10 with the octets needed. 1,400 octets are enough for any payload. */
+moult_writing moult_write(const uint16_t *rows, size_t rows_n, const uint8_t *bodies,
+                          size_t bodies_n, uint8_t *out, size_t out_n);
+
+/* The ticks of 1/8000 second that a payload's coder frames last; comfort noise adds none.
+   Refuses as moult_read does, 1 to 8. */
+moult_time moult_packet_ticks(const uint8_t *payload, size_t n);
+
+/* The ptime in milliseconds, rounded up, of 1 to 200 frames at rate 2400, 1200 or 600.
+   Refuses 12 with place 0 for any other rate or number of frames. */
+moult_time moult_ptime(uint32_t rate, size_t frames);
+
+/* Where the augmentation of a row (from 0) stands in the payload; start 0 and length 0 if the
+   payload is refused, the row is missing or its frame is not TSVCIS. stand_in is 0. */
+moult_part moult_augmentation(const uint8_t *payload, size_t n, size_t row);
+
+/* Where the wire octets of a row (from 0) stand in the payload, rate code bits and count included;
+   if the payload is refused or the row missing, the whole stand-in, whose octets are never looked
+   at. The part is of the caller's own buffer, so it lives as long as that does. */
+moult_part moult_frame_or(const uint8_t *payload, size_t n, size_t row, const uint8_t *stand_in,
+                          size_t stand_in_n);
+
+/* Reads a setting text of n octets, such as "bitrate=2400,600;tcmax=101" (no closing NUL).
+   A missing bitrate means 2400 only, a missing tcmax 35; names in any letter case.
+   Refuses 15 with place 0. */
+moult_settings_reading moult_settings_read(const uint8_t *text, size_t n);
+
+/* Writes settings, in moult_settings' order, as text: bitrate and then tcmax, lower case, no
+   closing NUL.
+   Refuses 15 with place 0, then 10 with the octets needed; 31 are enough. */
+moult_writing moult_settings_write(uint16_t first, uint16_t second, uint16_t third, uint16_t tcmax,
+                                   uint8_t *out, size_t out_n);
+
+/* Unpacks a 600 bps body into the fields of mode 1 to 3; `octets` of the answer counts fields.
+   Refuses 16 with place 0; 14 with place 7; 3 with place 6; 9 with the fields needed (11, 10, 10). */
+moult_writing moult_unpack(uint8_t mode, const uint8_t *body, size_t body_n, uint16_t *fields,
+                           size_t fields_n);
+
+/* Packs exactly the fields of mode 1 to 3 into a body of 7 octets.
+   Refuses 16 with place 0; 14 with the fields needed; 17 with the first field too large; 10 with
+   place 7. */
+moult_writing moult_pack(uint8_t mode, const uint16_t *fields, size_t fields_n, uint8_t *out,
+                         size_t out_n);
+
+#ifdef __cplusplus
+}
+#endif
+
+#endif

@@ -1,0 +1,249 @@
+/* The header and the static library from C and from C++: sizes, NULL with length 0, and document
+   01's bench payloads. Prints how many checks held; the first that does not ends the run. */
+#include "moult.h"
+
+#include <stdio.h>
+#include <stdlib.h>
+#include <string.h>
+
+#ifdef __cplusplus
+#define STATIC_CHECK(what) static_assert(what, #what)
+#else
+#define STATIC_CHECK(what) _Static_assert(what, #what)
+#endif
+
+STATIC_CHECK(sizeof(moult_reading) == 4 * sizeof(size_t));
+STATIC_CHECK(sizeof(moult_writing) == 3 * sizeof(size_t));
+STATIC_CHECK(sizeof(moult_time) == 3 * sizeof(size_t));
+STATIC_CHECK(sizeof(moult_part) == 3 * sizeof(size_t));
+STATIC_CHECK(sizeof(moult_settings) == 8);
+STATIC_CHECK(offsetof(moult_settings_reading, settings) == 2 * sizeof(size_t));
+
+static unsigned long checks;
+
+static void check(int holds, const char *what, int line)
+{
+    checks++;
+    if (!holds) {
+        fprintf(stderr, "%s:%d: does not hold: %s\n", __FILE__, line, what);
+        exit(1);
+    }
+}
+#define CHECK(what) check((what) ? 1 : 0, #what, __LINE__)
+
+#define GUARD 0xA5
+static uint8_t octets[1500];
+static uint16_t rows[402];
+static uint8_t bodies[1402];
+
+/* Reads a payload written as in document 01, such as "00*6 40"; gives its length. */
+static size_t payload_of(const char *text)
+{
+    size_t n = 0;
+    while (*text) {
+        char *end;
+        unsigned octet = (unsigned)strtoul(text, &end, 16);
+        unsigned times = 1;
+        if (*end == '*')
+            times = (unsigned)strtoul(end + 1, &end, 10);
+        while (times-- > 0)
+            octets[n++] = (uint8_t)octet;
+        text = *end == ' ' ? end + 1 : end;
+    }
+    return n;
+}
+
+static moult_reading read_into_guarded(const char *text)
+{
+    size_t n = payload_of(text);
+    memset(rows, GUARD, sizeof rows);
+    memset(bodies, GUARD, sizeof bodies);
+    return moult_read(octets, n, rows, 400, bodies, 1400);
+}
+
+static int unchanged_from(size_t row_numbers, size_t body_octets)
+{
+    const uint8_t *numbers = (const uint8_t *)(rows + row_numbers);
+    for (size_t i = 0; i < sizeof rows - 2 * row_numbers; i++)
+        if (numbers[i] != GUARD)
+            return 0;
+    for (size_t i = body_octets; i < sizeof bodies; i++)
+        if (bodies[i] != GUARD)
+            return 0;
+    return 1;
+}
+
+static void one_row(const char *text, unsigned kind, unsigned tc, size_t body, size_t ticks)
+{
+    moult_reading r = read_into_guarded(text);
+    size_t n = payload_of(text);
+    CHECK(r.number == 0 && r.place == 0 && r.rows == 1 && r.octets == body);
+    CHECK(rows[0] == kind && rows[1] == tc);
+    CHECK(unchanged_from(2, body));
+    CHECK(moult_count(octets, n) == 1);
+    moult_time t = moult_packet_ticks(octets, n);
+    CHECK(t.number == 0 && t.place == 0 && t.time == ticks);
+    moult_part whole = moult_frame_or(octets, n, 0, NULL, 0);
+    CHECK(whole.stand_in == 0 && whole.start == 0 && whole.length == n);
+    moult_part augmentation = moult_augmentation(octets, n, 0);
+    CHECK(augmentation.start == (tc ? 7u : 0u) && augmentation.length == tc);
+}
+
+static void refused(const char *text, uint32_t number, size_t place)
+{
+    moult_reading r = read_into_guarded(text);
+    size_t n = payload_of(text);
+    CHECK(r.number == number && r.place == place && r.rows == 0 && r.octets == 0);
+    CHECK(unchanged_from(0, 0));
+    CHECK(moult_count(octets, n) == -(int32_t)number);
+    moult_time t = moult_packet_ticks(octets, n);
+    CHECK(t.number == number && t.place == place && t.time == 0);
+    moult_part part = moult_frame_or(octets, n, 0, bodies, 5);
+    CHECK(part.stand_in == 1 && part.start == 0 && part.length == 5);
+    part = moult_augmentation(octets, n, 0);
+    CHECK(part.stand_in == 0 && part.start == 0 && part.length == 0);
+}
+
+static void bench_payloads(void)
+{
+    one_row("00*7", 1, 0, 7, 180);
+    refused("00*6", 2, 6);
+    one_row("00*6 40", 3, 0, 7, 720);
+    refused("00*13 40", 8, 7);
+    one_row("00*10 81", 2, 0, 11, 540);
+    CHECK(bodies[10] == 1);
+    refused("00*10 82", 3, 11);
+    one_row("00 A0", 4, 0, 2, 0);
+    refused("00 A0 00 A0", 6, 2);
+    one_row("00*22 C0", 5, 15, 22, 180);
+    refused("00*6 40 00*15 C0", 7, 23);
+    one_row("00*7 AA 01 FF", 5, 1, 8, 180);
+    CHECK(bodies[7] == 0xAA);
+    refused("00*9 FF", 4, 10);
+    refused("00*22 0F FF", 5, 24);
+    refused("00*7 01 FF", 2, 9);
+    refused("00*1401", 1, 1400);
+    CHECK(read_into_guarded("00*1400").rows == 200 && unchanged_from(400, 1400));
+}
+
+static void nothing_lent(void)
+{
+    moult_reading r = moult_read(NULL, 0, NULL, 0, NULL, 0);
+    CHECK(r.number == 0 && r.place == 0 && r.rows == 0 && r.octets == 0);
+    CHECK(moult_count(NULL, 0) == 0);
+    CHECK(moult_packet_ticks(NULL, 0).number == 0);
+    CHECK(moult_augmentation(NULL, 0, 0).length == 0);
+    moult_part part = moult_frame_or(NULL, 0, 0, NULL, 0);
+    CHECK(part.stand_in == 1 && part.start == 0 && part.length == 0);
+    moult_writing w = moult_write(NULL, 0, NULL, 0, NULL, 0);
+    CHECK(w.number == 0 && w.place == 0 && w.octets == 0);
+    moult_settings_reading s = moult_settings_read(NULL, 0);
+    CHECK(s.number == 0 && s.settings.first == 2400 && s.settings.second == 0 &&
+          s.settings.third == 0 && s.settings.tcmax == 35);
+    w = moult_settings_write(2400, 0, 0, 35, NULL, 0);
+    CHECK(w.number == 10 && w.place == 21 && w.octets == 0);
+    w = moult_unpack(1, NULL, 0, NULL, 0);
+    CHECK(w.number == 14 && w.place == 7 && w.octets == 0);
+    w = moult_pack(1, NULL, 0, NULL, 0);
+    CHECK(w.number == 14 && w.place == 11 && w.octets == 0);
+}
+
+static void times(void)
+{
+    CHECK(moult_ptime(2400, 5).time == 113 && moult_ptime(2400, 7).time == 158);
+    CHECK(moult_ptime(1200, 1).time == 68 && moult_ptime(600, 200).time == 18000);
+    moult_time t = moult_ptime(300, 1);
+    CHECK(t.number == 12 && t.place == 0 && t.time == 0);
+    CHECK(moult_ptime(2400, 0).number == 12 && moult_ptime(2400, 201).number == 12);
+}
+
+static void writer(void)
+{
+    uint16_t list[] = {5, 1, 4, 0};
+    uint8_t lent[10] = {1, 2, 3, 4, 5, 6, 7, 0xAA, 8, 9};
+    uint8_t wanted[12] = {1, 2, 3, 4, 5, 6, 7, 0xAA, 0x01, 0xFF, 8, 0xA9};
+    uint8_t out[14];
+    memset(out, GUARD, sizeof out);
+    moult_writing w = moult_write(list, 4, lent, 10, out, 11);
+    CHECK(w.number == 10 && w.place == 12 && w.octets == 0 && out[0] == GUARD);
+    w = moult_write(list, 4, lent, 10, out, 13);
+    CHECK(w.number == 0 && w.place == 0 && w.octets == 12);
+    CHECK(memcmp(out, wanted, 12) == 0 && out[12] == GUARD && out[13] == GUARD);
+    w = moult_write(list, 3, lent, 10, out, 13);
+    CHECK(w.number == 11 && w.place == 3);
+    list[0] = 4;
+    list[1] = 0;
+    w = moult_write(list, 4, lent, 10, out, 13);
+    CHECK(w.number == 6 && w.place == 0);
+}
+
+static moult_writing write_settings(moult_settings s, uint8_t *out, size_t out_n)
+{
+    return moult_settings_write(s.first, s.second, s.third, s.tcmax, out, out_n);
+}
+
+static void settings(void)
+{
+    const char *text = "TCMAX=101;bitrate=600,2400";
+    const char *wanted = "bitrate=600,2400;tcmax=101";
+    uint8_t out[32];
+    memset(out, GUARD, sizeof out);
+    moult_settings_reading s = moult_settings_read((const uint8_t *)text, strlen(text));
+    CHECK(s.number == 0 && s.settings.first == 600 && s.settings.second == 2400 &&
+          s.settings.third == 0 && s.settings.tcmax == 101);
+    moult_writing w = write_settings(s.settings, out, sizeof out);
+    CHECK(w.number == 0 && w.octets == 26 && memcmp(out, wanted, 26) == 0 && out[26] == GUARD);
+    s = moult_settings_read((const uint8_t *)"tcmax=0", 7);
+    CHECK(s.number == 15 && s.place == 0 && s.settings.first == 0 && s.settings.tcmax == 0);
+    w = write_settings(s.settings, out, sizeof out);
+    CHECK(w.number == 15 && w.place == 0 && w.octets == 0);
+}
+
+/* Mode 1, all 0 but one field: the body is all 0 but one octet. */
+static void one_field(size_t field, uint16_t value, size_t index, uint8_t octet)
+{
+    uint16_t fields[12] = {0};
+    uint8_t body[8];
+    memset(body, GUARD, sizeof body);
+    fields[field] = value;
+    moult_writing w = moult_pack(1, fields, 11, body, 8);
+    CHECK(w.number == 0 && w.octets == 7 && body[7] == GUARD);
+    for (size_t i = 0; i < 7; i++)
+        CHECK(body[i] == (i == index ? octet : 0));
+    uint16_t back[12];
+    memset(back, GUARD, sizeof back);
+    w = moult_unpack(1, body, 7, back, 12);
+    CHECK(w.number == 0 && w.octets == 11 && memcmp(fields, back, 22) == 0 && back[11] == 0xA5A5);
+}
+
+static void fields(void)
+{
+    uint8_t body[7] = {0, 0, 0, 0, 0, 0, 64};
+    uint16_t wide[10] = {0, 64, 0, 0, 0, 0, 0, 0, 0, 0};
+    one_field(0, 16, 0, 0x01);
+    one_field(10, 1, 6, 0x20);
+    one_field(10, 64, 5, 0x80);
+    CHECK(moult_unpack(0, body, 7, rows, 11).number == 16);
+    CHECK(moult_unpack(4, body, 7, rows, 11).number == 16);
+    moult_writing w = moult_unpack(2, body, 7, rows, 11);
+    CHECK(w.number == 3 && w.place == 6);
+    body[6] = 63;
+    w = moult_unpack(3, body, 7, rows, 9);
+    CHECK(w.number == 9 && w.place == 10);
+    w = moult_pack(2, wide, 10, octets, 7);
+    CHECK(w.number == 17 && w.place == 1);
+    w = moult_pack(3, wide, 10, octets, 6);
+    CHECK(w.number == 10 && w.place == 7);
+}
+
+int main(void)
+{
+    bench_payloads();
+    nothing_lent();
+    times();
+    writer();
+    settings();
+    fields();
+    printf("%lu checks held\n", checks);
+    return 0;
+}
