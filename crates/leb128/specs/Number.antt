@@ -1,0 +1,66 @@
+-- Numbers in groups of seven bits (document 01, "The listing"): a number's octets said forwards, and one step of reading them.
+use mathlib.Core.Path.{_≡_}
+use mathlib.Core.Bool.{cond, _&&_}
+use mathlib.Core.List.{List, [], _∷_}
+use Prim.Native.Nat.{ℕ, zero, suc, _+_, _-_, _*_, _/_, _%_, _^_, _≤_, _<_}
+use lib.Dec.{ltb, eqb}
+use lib.ListN.{length, drop}
+use Rattle.leb128.specs.declared.Group.{Group}
+use Rattle.leb128.specs.declared.Group.the-variants.{More, Last, Bad}
+use Rattle.leb128.specs.declared.Found.{Found}
+use Rattle.leb128.specs.declared.Found.the-variants as found
+
+-- "in groups of seven bits, low group first, 128 meaning 'more', shortest form": the octets of n, for which k groups are enough
+abbrev pub groupsOf : ℕ → ℕ → List ℕ
+groupsOf zero n = []
+groupsOf (suc k) n = cond (ltb n 128) (n ∷ []) ((128 + n % 128) ∷ groupsOf k (n / 128))
+
+-- a number that may stand there: at most `most` groups, and at most `bound`
+pub record Within (most bound n : ℕ) : Type 0 where
+  pub groups : n < 128 ^ most
+  pub small : n ≤ bound
+
+-- ---- reading, octet by octet: v is the value of k groups
+
+-- k groups came to v; nine groups, 63 bits, are the most that are read
+pub record Partial (v k : ℕ) : Type 0 where
+  pub few : k < 9
+  pub held : v < 128 ^ k
+
+-- the octet x is the last group: shortest form, so no 0 behind another group
+unfoldable pub lastGroup : ℕ → ℕ → ℕ → ℕ → Group
+lastGroup bound v k x = cond (eqb x 0 && ltb 0 k) Bad (cond (ltb bound (v + x * 128 ^ k)) Bad (Last (v + x * 128 ^ k)))
+
+-- the octet x is a group that another one follows
+unfoldable pub moreGroups : ℕ → ℕ → ℕ → ℕ → Group
+moreGroups most v k x = cond (ltb (k + 1) most) (More (v + (x - 128) * 128 ^ k)) Bad
+
+-- the octet x behind k groups of the value v; Bad also where no k groups come to v
+unfoldable pub stepOf : ℕ → ℕ → ℕ → ℕ → ℕ → Group
+stepOf most bound v k x = cond (ltb k 9 && ltb v (128 ^ k)) (cond (ltb x 128) (lastGroup bound v k x) (moreGroups most v k x)) Bad
+
+-- what stands at the start of some octets: a number, with the octets behind it; not enough octets, with the groups so far;
+-- no number
+pub data Head : Type 0 where
+  number : ℕ → List ℕ → Head
+  short : ℕ → ℕ → Head
+  none : Head
+
+-- octet by octet, from k groups of the value v on
+abbrev pub headFrom : ℕ → ℕ → ℕ → ℕ → List ℕ → Head
+headFrom most bound v k [] = short v k
+headFrom most bound v k (x ∷ xs) = elim (stepOf most bound v k x) [ More w ↦ headFrom most bound w (k + 1) xs | Last n ↦ number n xs | Bad ↦ none ]
+
+-- from the start
+abbrev pub headOf : ℕ → ℕ → List ℕ → Head
+headOf most bound xs = headFrom most bound 0 0 xs
+
+-- a head, as it is answered of octets of which it is the end: a number with the index behind it, where all have the length n
+abbrev pub foundOf : ℕ → Head → Found
+foundOf n (number m rest) = found.Number m (n - length rest)
+foundOf n (short v k) = found.Short
+foundOf n none = found.Bad
+
+-- what stands at the index i of the octets xs
+abbrev pub foundAt : ℕ → ℕ → List ℕ → ℕ → Found
+foundAt most bound xs i = foundOf (length xs) (headOf most bound (drop i xs))

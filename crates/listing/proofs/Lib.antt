@@ -1,0 +1,10 @@
+pub mod Puts
+pub mod Digits
+pub mod Rows
+pub mod Runs
+pub mod Carrying
+pub mod Forward
+pub mod Entries
+pub mod Joined
+pub mod RefusedLine
+pub mod Sample

@@ -1,0 +1,106 @@
+-- A line is stored field by field.
+use mathlib.Core.Path.{_≡_, refl, sym, ap, _∙_}
+use mathlib.Core.List.{List, [], _∷_, _++_, append-assoc}
+use Prim.Native.Nat.{ℕ, zero, suc, _+_, _≤_, _<_}
+use native.Mathlib.Omega.{arith}
+use lib.ListN.{length, length-append}
+use borrow.Author.Tests.{lt-ltb, le-ltb}
+use Rattle.refusal.specs.declared.Refusal.{Refusal}
+use Rattle.wire.specs.Walk.{readOf}
+use Rattle.payload.specs.Reading.{contentsOf}
+use Rattle.payload.specs.declared.Totals.{Totals}
+use Rattle.payload.specs.declared.Contents.{Contents}
+use Rattle.payload.specs.declared.Contents.the-variants.{Whole, Refused}
+use Rattle.listing.specs.Line.{decimal, okWord, refusedWord, row, lineOf, payloadLine, closing}
+use Rattle.listing.specs.Listing.{following}
+use Rattle.listing.specs.Carried.{Puts}
+use Rattle.listing.proofs.Puts.{puts-then, puts-same, puts-room}
+use Rattle.listing.proofs.Digits.{decimal-long}
+
+-- a word and a number
+module _ (o : List ℕ) (a : ℕ) (w : List ℕ) (n : ℕ) (room : a + (length w + 20) ≤ length o) {e : List ℕ} {r : ℕ} (p : Puts o a w e r) where
+  pub field-room : r + 20 ≤ length e
+  field-room = puts-room o a w (length w) 20 p (omega arith) (omega arith)
+
+  pub field-put : {f : List ℕ} {s : ℕ} → Puts e r (decimal n) f s → Puts o a (w ++ decimal n) f s
+  field-put q = puts-then o a w (decimal n) p q (omega (arith, decimal-long n))
+
+field-long : (w : List ℕ) (n m : ℕ) → length w ≤ m → length (w ++ decimal n) ≤ m + 20
+field-long w n m h = omega (arith, length-append w (decimal n), decimal-long n)
+
+module _ (o : List ℕ) (a n : ℕ) (w : List ℕ) (x y : ℕ) (room : a + 71 ≤ length o) (short : length w ≤ 9) {e : List ℕ} {r : ℕ} (p : Puts o a (decimal n) e r) where
+  pub row-room : r + (length w + 20) ≤ length e
+  row-room = puts-room o a (decimal n) 20 (length w + 20) p (decimal-long n) (omega arith)
+
+  module _ {f : List ℕ} {s : ℕ} (q : Puts e r (w ++ decimal x) f s) where
+    two : Puts o a (decimal n ++ (w ++ decimal x)) f s
+    two = puts-then o a (decimal n) (w ++ decimal x) p q (omega (arith, decimal-long n, field-long w x 9 short))
+
+    two-long : length (decimal n ++ (w ++ decimal x)) ≤ 49
+    two-long = omega (arith, length-append (decimal n) (w ++ decimal x), decimal-long n, field-long w x 9 short)
+
+    pub row-room-2 : s + 21 ≤ length f
+    row-room-2 = puts-room o a (decimal n ++ (w ++ decimal x)) 49 21 two two-long (omega arith)
+
+    module _ {g : List ℕ} {t : ℕ} (u : Puts f s ((32 ∷ []) ++ decimal y) g t) where
+      three : Puts o a ((decimal n ++ (w ++ decimal x)) ++ ((32 ∷ []) ++ decimal y)) g t
+      three = puts-then o a (decimal n ++ (w ++ decimal x)) ((32 ∷ []) ++ decimal y) two u (omega (arith, two-long, field-long (32 ∷ []) y 1 (omega arith)))
+
+      three-long : length ((decimal n ++ (w ++ decimal x)) ++ ((32 ∷ []) ++ decimal y)) ≤ 70
+      three-long = omega (arith, length-append (decimal n ++ (w ++ decimal x)) ((32 ∷ []) ++ decimal y), two-long, field-long (32 ∷ []) y 1 (omega arith))
+
+      pub row-room-3 : t + 1 ≤ length g
+      row-room-3 = puts-room o a ((decimal n ++ (w ++ decimal x)) ++ ((32 ∷ []) ++ decimal y)) 70 1 three three-long (omega arith)
+
+      pub row-put : {h : List ℕ} {v : ℕ} → Puts g t (10 ∷ []) h v → Puts o a (row n w x y) h v
+      row-put z =
+          puts-same o a (append-assoc (decimal n ++ (w ++ decimal x)) ((32 ∷ []) ++ decimal y) (10 ∷ []) ∙ append-assoc (decimal n) (w ++ decimal x) (32 ∷ (decimal y ++ (10 ∷ []))) ∙ ap (λ (l : List ℕ). decimal n ++ l) (append-assoc w (decimal x) (32 ∷ (decimal y ++ (10 ∷ [])))))
+          (puts-then o a ((decimal n ++ (w ++ decimal x)) ++ ((32 ∷ []) ++ decimal y)) (10 ∷ []) three z (omega (arith, three-long)))
+
+-- a last line
+module _ (o w : List ℕ) (n : ℕ) (room : 25 ≤ length o) (short : length w ≤ 4) {e : List ℕ} {r : ℕ} (p : Puts o 0 (w ++ decimal n) e r) where
+  pub closing-room : r + 1 ≤ length e
+  closing-room = puts-room o 0 (w ++ decimal n) 24 1 p (field-long w n 4 short) (omega arith)
+
+  pub closing-put : {f : List ℕ} {s : ℕ} → Puts e r (10 ∷ []) f s → Puts o 0 (closing w n) f s
+  closing-put q = puts-same o 0 (append-assoc w (decimal n) (10 ∷ [])) (puts-then o 0 (w ++ decimal n) (10 ∷ []) p q (omega (arith, field-long w n 4 short)))
+
+-- the line of a payload
+module _ (o : List ℕ) (a n : ℕ) (p : List ℕ) {x y : ℕ} {c : Contents} (q : c ≡ contentsOf (readOf p)) {e : List ℕ} {r : ℕ} where
+  pub line-whole : (t : Totals) → c ≡ Whole t → x ≡ t .frames → y ≡ t .ticks → Puts o a (row n okWord x y) e r → Puts o a (payloadLine n p) e r
+  line-whole t w ex ey s = puts-same o a (rw (ex, ey) (ap (lineOf n) (sym w ∙ q))) s
+
+  pub line-refused : (f : Refusal) → c ≡ Refused f → x ≡ f .number → y ≡ f .place → Puts o a (row n refusedWord x y) e r → Puts o a (payloadLine n p) e r
+  line-refused f w ex ey s = puts-same o a (rw (ex, ey) (ap (lineOf n) (sym w ∙ q))) s
+
+-- ---- the number of a line
+
+pub following-more : (n : ℕ) → n < 18446744073709551615 → n + 1 ≡ following n
+unfolding following
+following-more n h = simp (lt-ltb n 18446744073709551615 h)
+
+pub following-last : (n : ℕ) → 18446744073709551615 ≤ n → n ≡ following n
+unfolding following
+following-last n h = simp (le-ltb n 18446744073709551615 h)
+
+-- ---- how long a line is
+
+row-long : (n : ℕ) (w : List ℕ) (x y : ℕ) → length w ≤ 9 → length (row n w x y) ≤ 71
+row-long n w x y h =
+    omega (
+      arith,
+      length-append (decimal n) (w ++ (decimal x ++ (32 ∷ (decimal y ++ (10 ∷ []))))),
+      length-append w (decimal x ++ (32 ∷ (decimal y ++ (10 ∷ [])))),
+      length-append (decimal x) (32 ∷ (decimal y ++ (10 ∷ []))),
+      length-append (decimal y) (10 ∷ []),
+      decimal-long n,
+      decimal-long x,
+      decimal-long y,
+    )
+
+pub line-long : (n : ℕ) (p : List ℕ) → length (payloadLine n p) ≤ 71
+line-long n p = go (contentsOf (readOf p))
+  where
+    go : (c : Contents) → length (lineOf n c) ≤ 71
+    go (Whole t) = row-long n okWord (t .frames) (t .ticks) (omega arith)
+    go (Refused f) = row-long n refusedWord (f .number) (f .place) (omega arith)

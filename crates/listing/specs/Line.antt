@@ -1,0 +1,59 @@
+-- Document 01, "The listing": the lines, as octets of ASCII.
+use mathlib.Core.Bool.{cond}
+use mathlib.Core.List.{List, [], _∷_, _++_}
+use Prim.Native.Nat.{ℕ, zero, suc, _+_, _/_, _%_}
+use lib.Dec.{ltb}
+use Rattle.wire.specs.Walk.{readOf}
+use Rattle.payload.specs.Reading.{contentsOf}
+use Rattle.payload.specs.declared.Contents.{Contents}
+use Rattle.payload.specs.declared.Contents.the-variants.{Whole, Refused}
+
+-- the decimal digits of n, highest first, no leading zero; k digits are enough for it
+abbrev pub digits : ℕ → ℕ → List ℕ
+digits zero n = []
+digits (suc k) n = cond (ltb n 10) ((48 + n) ∷ []) (digits k (n / 10) ++ ((48 + n % 10) ∷ []))
+
+-- the same of a 64-bit number, for which 20 digits are enough
+unfoldable pub decimal : ℕ → List ℕ
+decimal n = digits 20 n
+
+-- ` ok `
+abbrev pub okWord : List ℕ
+okWord = 32 ∷ 111 ∷ 107 ∷ 32 ∷ []
+
+-- ` refused `
+abbrev pub refusedWord : List ℕ
+refusedWord = 32 ∷ 114 ∷ 101 ∷ 102 ∷ 117 ∷ 115 ∷ 101 ∷ 100 ∷ 32 ∷ []
+
+-- `end `
+abbrev pub endWord : List ℕ
+endWord = 101 ∷ 110 ∷ 100 ∷ 32 ∷ []
+
+-- `cut `
+abbrev pub cutWord : List ℕ
+cutWord = 99 ∷ 117 ∷ 116 ∷ 32 ∷ []
+
+-- a number, a word, and two numbers with a space between, and the line's end
+abbrev pub row : ℕ → List ℕ → ℕ → ℕ → List ℕ
+row n word a b = decimal n ++ (word ++ (decimal a ++ (32 ∷ (decimal b ++ (10 ∷ [])))))
+
+-- "(number, frames, ticks; or number, refusal, place)": the line of the payload with the number n
+abbrev pub lineOf : ℕ → Contents → List ℕ
+lineOf n (Whole t) = row n okWord (t .frames) (t .ticks)
+lineOf n (Refused x) = row n refusedWord (x .number) (x .place)
+
+-- the line of the payload p, which has the number n
+abbrev pub payloadLine : ℕ → List ℕ → List ℕ
+payloadLine n p = lineOf n (contentsOf (readOf p))
+
+-- a word and a number, and the line's end
+abbrev pub closing : List ℕ → ℕ → List ℕ
+closing word n = word ++ (decimal n ++ (10 ∷ []))
+
+-- "`end` and that number"
+abbrev pub endLine : ℕ → List ℕ
+endLine n = closing endWord n
+
+-- "ends the list with `cut` and the number of payload lines so far"
+abbrev pub cutLine : ℕ → List ℕ
+cutLine n = closing cutWord n
