@@ -1,0 +1,427 @@
+// Reads cases, one to a line, and writes each with what the library answers. The file stdout beside src/ is made from
+// document 01, not from this library. A case is one of
+//
+//     read NUMBERS OCTETS: PAYLOAD
+//     view ROW OCTETS: PAYLOAD
+//     time RATE FRAMES
+//
+// and any other line is only written. `read` lends that many numbers, each 99 before the call, and octets, each ee, and
+// writes the answer and all that was lent, so that whatever a call leaves unchanged shows; then frames, body octets and
+// ticks by `survey`, and ticks by `packet_ticks`. `view` writes the row's augmentation and its frame, with a stand-in of that
+// many octets, each 5a. `time` writes the ptime in milliseconds.
+//
+// A payload is written as document 01 writes it: `00*6` is six zeros. `(00*6 40)*2` is two frames.
+ghost use mathlib.Core.Path.{_≡_};
+ghost use Prim.Native.Nat.{_+_, _≤_, _<_};
+ghost use lib.ListN.{length};
+use clock::PacketMillis;
+use clock::PacketTicks;
+use libc::STDIN_FILENO;
+use libc::STDOUT_FILENO;
+use payload::Contents;
+use payload::Reading;
+use refusal::Refusal;
+
+// ---- writing
+
+fn say(text: &[u8]) {
+    io::write_all(STDOUT_FILENO, text);
+}
+
+fn say_decimal(n: usize) {
+    io::print_decimal(STDOUT_FILENO, n as u64);
+}
+
+fn say_number(n: usize) {
+    say(b" ");
+    say_decimal(n);
+}
+
+fn say_refused(r: Refusal) {
+    say(b" refused");
+    say_number(r.number as usize);
+    say_number(r.place);
+}
+
+fn say_entry(number: u16) {
+    say_number(number as usize);
+}
+
+fn say_numbers(numbers: &[u16]) {
+    let mut i = 0;
+    while i < numbers.len() {
+        say_entry(numbers[i]);
+        i += 1;
+    }
+}
+
+fn say_run(octet: u8, times: usize) {
+    say(b" ");
+    io::print_hex(STDOUT_FILENO, octet as u64, 2);
+    if 1 < times {
+        say(b"*");
+        say_decimal(times);
+    }
+}
+
+// Octet i is in the run that starts at an index. Writes the run if i is its end, and answers where the run of octet i + 1
+// starts.
+fn end_run(octets: &[u8], start: usize, i: usize) -> usize
+    requires { ⌜ (start ≤ i) × (i < length (now octets)) ⌝ }
+    ensures { λ r. ⌜ r ≤ i + 1 ⌝ }
+{
+    let next = i + 1;
+    if next < octets.len() {
+        if octets[i] == octets[next] {
+            return start;
+        }
+    }
+    say_run(octets[i], next - start);
+    next
+}
+
+fn say_octets(octets: &[u8]) {
+    let mut start = 0;
+    let mut i = 0;
+    while i < octets.len() {
+        start = end_run(octets, start, i);
+        i += 1;
+    }
+}
+
+// ---- numbers in a text
+
+// A number so far, and where it ends.
+struct Number {
+    value: usize,
+    end: usize,
+}
+
+fn wide(x: u8) -> usize
+    ensures { λ r. ⌜ r ≡ x ⌝ }
+{
+    x as usize
+}
+
+// A digit's value; hexadecimal ones are upper case.
+fn digit(x: u8) -> u8
+    ensures { λ r. ⌜ r < 16 ⌝ }
+{
+    if x < 64 {
+        return x % 16;
+    }
+    (x % 16 + 9) % 16
+}
+
+// The number with the next digit, if there is one.
+fn with_digit(text: &[u8], n: Number) -> Number {
+    let end = n.end;
+    if text.len() <= end {
+        return n;
+    }
+    let x = text[end];
+    if x < b'0' {
+        return n;
+    }
+    if b'9' < x {
+        return n;
+    }
+    if 1844674407370955160 < n.value {
+        return n;
+    }
+    Number {
+        value: n.value * 10 + wide(digit(x)),
+        end: end + 1,
+    }
+}
+
+fn number_at(text: &[u8], start: usize) -> Number {
+    let mut n = Number {
+        value: 0,
+        end: start,
+    };
+    let mut left = text.len();
+    while 0 < left {
+        n = with_digit(text, n);
+        left -= 1;
+    }
+    n
+}
+
+// ---- a payload out of its text
+
+// Where the text is read, where the payload ends, where the group starts, and the octets that a `*` repeats.
+struct Cursor {
+    at: usize,
+    end: usize,
+    group: usize,
+    last: usize,
+}
+
+fn put_octet(payload: &mut [u8], end: usize, octet: u8) -> usize {
+    if payload.len() <= end {
+        return end;
+    }
+    payload[end] = octet;
+    end + 1
+}
+
+// The octet that stands `last` before the end, once more.
+fn put_again(payload: &mut [u8], end: usize, last: usize) -> usize {
+    if end < last {
+        return end;
+    }
+    let from = end - last;
+    if payload.len() <= end {
+        return end;
+    }
+    payload[end] = payload[from];
+    end + 1
+}
+
+// The last octets, so many, once more.
+fn put_group(payload: &mut [u8], start: usize, last: usize) -> usize {
+    let mut end = start;
+    let mut left = last;
+    while 0 < left {
+        end = put_again(payload, end, last);
+        left -= 1;
+    }
+    end
+}
+
+// The same, until they stand there so many times.
+fn repeat(payload: &mut [u8], start: usize, last: usize, times: usize) -> usize {
+    let mut end = start;
+    let mut left = times;
+    while 1 < left {
+        end = put_group(payload, end, last);
+        left -= 1;
+    }
+    end
+}
+
+fn close_group(c: Cursor) -> Cursor {
+    if c.end < c.group {
+        return c;
+    }
+    Cursor {
+        at: c.at,
+        end: c.end,
+        group: c.group,
+        last: c.end - c.group,
+    }
+}
+
+// A mark, behind which the cursor stands.
+fn put_mark(payload: &mut [u8], text: &[u8], c: Cursor, x: u8) -> Cursor {
+    if x == b'(' {
+        return Cursor {
+            at: c.at,
+            end: c.end,
+            group: c.end,
+            last: 0,
+        };
+    }
+    if x == b')' {
+        return close_group(c);
+    }
+    if x == b'*' {
+        let n = number_at(text, c.at);
+        return Cursor {
+            at: n.end,
+            end: repeat(payload, c.end, c.last, n.value),
+            group: c.group,
+            last: c.last,
+        };
+    }
+    c
+}
+
+// One mark, or the two digits of an octet.
+fn put_next(payload: &mut [u8], text: &[u8], c: Cursor) -> Cursor {
+    let at = c.at;
+    if text.len() <= at {
+        return c;
+    }
+    let x = text[at];
+    let next = at + 1;
+    let behind = Cursor {
+        at: next,
+        end: c.end,
+        group: c.group,
+        last: c.last,
+    };
+    if x < b'0' {
+        return put_mark(payload, text, behind, x);
+    }
+    if x == b':' {
+        return behind;
+    }
+    if text.len() <= next {
+        return behind;
+    }
+    Cursor {
+        at: next + 1,
+        end: put_octet(payload, c.end, digit(x) * 16 + digit(text[next])),
+        group: c.group,
+        last: 1,
+    }
+}
+
+// Puts the octets that the text gives from an index on, and answers how many.
+fn put_text(payload: &mut [u8], text: &[u8], start: usize) -> usize {
+    let mut c = Cursor {
+        at: start,
+        end: 0,
+        group: 0,
+        last: 0,
+    };
+    let mut left = text.len();
+    while 0 < left {
+        c = put_next(payload, text, c);
+        left -= 1;
+    }
+    c.end
+}
+
+// ---- cases
+
+fn say_survey(payload: &[u8]) {
+    let contents = payload::survey(payload);
+    match contents {
+        Contents::Refused(r) => say_refused(r),
+        Contents::Whole(totals) => {
+            say_number(totals.frames);
+            say_number(totals.octets);
+            say_number(totals.ticks);
+        }
+    }
+}
+
+fn say_ticks(payload: &[u8]) {
+    let lasts = clock::packet_ticks(payload);
+    match lasts {
+        PacketTicks::Refused(r) => say_refused(r),
+        PacketTicks::Lasts(ticks) => say_number(ticks.0),
+    }
+}
+
+fn say_reading(payload: &[u8], rows: &mut [u16], bodies: &mut [u8]) {
+    let answer = payload::read(payload, rows, bodies);
+    match answer {
+        Reading::Refused(r) => say_refused(r),
+        Reading::Read(n, m) => {
+            say_number(n);
+            say_number(m);
+        }
+    }
+    say(b";");
+    say_numbers(rows);
+    say(b";");
+    say_octets(bodies);
+}
+
+fn read_case(payload: &[u8], numbers: usize, octets: usize) {
+    if 410 < numbers {
+        return;
+    }
+    if 1410 < octets {
+        return;
+    }
+    let mut rows = [99u16; 410];
+    let mut bodies = [0xeeu8; 1410];
+    say_reading(payload, &mut rows[..numbers], &mut bodies[..octets]);
+    say(b"; holds");
+    say_survey(payload);
+    say(b"; lasts");
+    say_ticks(payload);
+}
+
+fn say_views<'a>(payload: &'a [u8], row: usize, stand_in: &'a [u8]) {
+    say(b" augmentation");
+    say_octets(views::augmentation(payload, row));
+    say(b"; frame");
+    say_octets(views::frame_or(payload, row, stand_in));
+}
+
+fn view_case(payload: &[u8], row: usize, octets: usize) {
+    if 10 < octets {
+        return;
+    }
+    let stand_in = [0x5au8; 10];
+    say_views(payload, row, &stand_in[..octets]);
+}
+
+fn time_case(rate: usize, frames: usize) {
+    let lasts = clock::ptime((rate % 4294967296) as u32, frames);
+    match lasts {
+        PacketMillis::Refused(r) => say_refused(r),
+        PacketMillis::Lasts(millis) => say_number(millis.0),
+    }
+}
+
+// A case by its first letter.
+fn case(name: u8, first: usize, second: usize, payload: &[u8]) {
+    if name == b'r' {
+        say(b" ->");
+        read_case(payload, first, second);
+    }
+    if name == b'v' {
+        say(b" ->");
+        view_case(payload, first, second);
+    }
+    if name == b't' {
+        say(b" ->");
+        time_case(first, second);
+    }
+}
+
+// The two numbers and the payload stand behind a name of four letters.
+fn case_in(line: &[u8]) {
+    if line.len() < 5 {
+        return;
+    }
+    let first = number_at(line, 5);
+    if line.len() <= first.end {
+        return;
+    }
+    let second = number_at(line, first.end + 1);
+    let mut payload = [0u8; 1500];
+    let n = put_text(&mut payload, line, second.end);
+    if 1500 < n {
+        return;
+    }
+    case(line[0], first.value, second.value, &payload[..n]);
+}
+
+// Octet i is in the line that starts at an index. Goes through the line if i is its end, and answers where the line of
+// octet i + 1 starts.
+fn end_line(input: &[u8], start: usize, i: usize) -> usize
+    requires { ⌜ (start ≤ i) × (i < length (now input)) ⌝ }
+    ensures { λ r. ⌜ r ≤ i + 1 ⌝ }
+{
+    if input[i] != b'\n' {
+        return start;
+    }
+    let line = &input[start..i];
+    say(line);
+    case_in(line);
+    say(b"\n");
+    i + 1
+}
+
+fn lines(input: &[u8]) {
+    let mut start = 0;
+    let mut i = 0;
+    while i < input.len() {
+        start = end_line(input, start, i);
+        i += 1;
+    }
+}
+
+fn main() {
+    let mut input = io::large_buffer();
+    let n = io::read_full(STDIN_FILENO, &mut input);
+    lines(&input[..n]);
+}
