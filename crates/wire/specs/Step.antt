@@ -1,4 +1,4 @@
--- One step of the walk in a shape's numbers, as the code takes it; proofs/Steps.antt ties it to the walk's own words.
+-- One step of the walk in a shape's numbers, as the code takes it; proofs/Shapes.antt ties it to the walk's own words.
 use mathlib.Core.Path.{_≡_}
 use mathlib.Core.Bool.{cond}
 use Prim.Native.Nat.{ℕ, _+_, _-_, _≤_, _<_}
