@@ -9,7 +9,7 @@ use Rattle.wire.specs.Walk.{Walk, at, refused, readOf}
 use Rattle.wire.proofs.Complete.{complete}
 use Rattle.wire.proofs.Sound.{sound, Ended, read-ends}
 use Rattle.wire.proofs.Ranges.{InRange, in-range}
-use Rattle.payload.specs.Reading.{refuse, extent, walkedOf, totals, contentsOf}
+use Rattle.payload.specs.Reading.{refuse, extent, walkedOf, totals, contentsOf, walkReport, walkNumbers, Walks, surveyReport, surveyNumbers, Surveys}
 use Rattle.payload.specs.declared.Extent.{Extent}
 use Rattle.payload.specs.declared.Walked.{Walked}
 use Rattle.payload.specs.declared.Walked.the-variants as walked
@@ -87,3 +87,19 @@ module _ (p : List ℕ) (o : Octets p) {s : Contents} (is : s ≡ contentsOf (re
       go : {w : Walk} → View p w → contentsOf w ≡ contents.Refused x → Denied p x
       go (over a) q = absurd (let z : _≡_ {A = ℕ} 0 1 = cc in omega arith)
       go (not y d) q = let f : y ≡ x = cc in subst (Denied p) f d
+
+-- ---- what the two promise, from their answers
+
+pub walks : (p : List ℕ) {r : Walked} → r ≡ walkedOf (readOf p) → Walks p r
+walks p e = record { answer = e; numbers = ap walkReport e ∙ go (readOf p) }
+  where
+    go : (w : Walk) → walkReport (walkedOf w) ≡ walkNumbers w
+    go (at u fs) = refl
+    go (refused n place later) = refl
+
+pub surveys : (p : List ℕ) {r : Contents} → r ≡ contentsOf (readOf p) → Surveys p r
+surveys p e = record { answer = e; numbers = ap surveyReport e ∙ go (readOf p) }
+  where
+    go : (w : Walk) → surveyReport (contentsOf w) ≡ surveyNumbers w
+    go (at u fs) = refl
+    go (refused n place later) = refl

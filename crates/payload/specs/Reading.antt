@@ -1,4 +1,5 @@
 -- What reading a payload answers, and what the lent rows and bodies hold afterwards: document 01, "Reader".
+use mathlib.Core.Path.{_≡_}
 use mathlib.Core.Bool.{cond}
 use mathlib.Core.List.{List, _++_}
 use Prim.Native.Nat.{ℕ, _*_, _/_}
@@ -85,3 +86,49 @@ pub record Report : Type 0 where
 abbrev pub reportOf : Reading → Report
 reportOf (reading.Read n m) = record { number = 0; place = 0; rows = n; octets = m }
 reportOf (reading.Refused x) = record { number = x .number; place = x .place; rows = 0; octets = 0 }
+
+-- document 01's numbers for what the walk comes to; 0 for all values of a refusal
+pub record WalkReport : Type 0 where
+  pub number : ℕ
+  pub place : ℕ
+  pub frames : ℕ
+  pub octets : ℕ
+  pub rate : ℕ
+
+-- the numbers of each case of the walk's answer
+abbrev pub walkReport : Walked → WalkReport
+walkReport (walked.Whole x) = record { number = 0; place = 0; frames = x .frames; octets = x .octets; rate = x .rate }
+walkReport (walked.Refused x) = record { number = x .number; place = x .place; frames = 0; octets = 0; rate = 0 }
+
+-- the numbers of a walk
+abbrev pub walkNumbers : Walk → WalkReport
+walkNumbers (at u fs) = record { number = 0; place = 0; frames = length fs; octets = length (bodiesOf fs); rate = seen fs }
+walkNumbers (refused n place later) = record { number = n; place = place; frames = 0; octets = 0; rate = 0 }
+
+-- what `walk` promises of a payload p
+pub record Walks (p : List ℕ) (r : Walked) : Type 0 where
+  pub answer : r ≡ walkedOf (readOf p)
+  pub numbers : walkReport r ≡ walkNumbers (readOf p)
+
+-- document 01's numbers for what a payload holds: "A refused payload gives its refusal and 0 ticks"
+pub record SurveyReport : Type 0 where
+  pub number : ℕ
+  pub place : ℕ
+  pub frames : ℕ
+  pub octets : ℕ
+  pub ticks : ℕ
+
+-- the numbers of each case of the survey's answer
+abbrev pub surveyReport : Contents → SurveyReport
+surveyReport (contents.Whole x) = record { number = 0; place = 0; frames = x .frames; octets = x .octets; ticks = x .ticks }
+surveyReport (contents.Refused x) = record { number = x .number; place = x .place; frames = 0; octets = 0; ticks = 0 }
+
+-- the numbers of a walk, ticks among them
+abbrev pub surveyNumbers : Walk → SurveyReport
+surveyNumbers (at u fs) = record { number = 0; place = 0; frames = length fs; octets = length (bodiesOf fs); ticks = ticksOf fs }
+surveyNumbers (refused n place later) = record { number = n; place = place; frames = 0; octets = 0; ticks = 0 }
+
+-- what `survey` promises of a payload p
+pub record Surveys (p : List ℕ) (r : Contents) : Type 0 where
+  pub answer : r ≡ contentsOf (readOf p)
+  pub numbers : surveyReport r ≡ surveyNumbers (readOf p)

@@ -4,7 +4,7 @@ ghost use Prim.Native.Nat.{_+_, _*_, _≤_, _<_};
 ghost use lib.ListN.{length, set, drop};
 ghost use lib.Seq.{paste};
 ghost use Rattle.wire.specs.Walk.{readOf};
-ghost use Rattle.payload.specs.Reading.{walkedOf, contentsOf, ticksIn, readInto};
+ghost use Rattle.payload.specs.Reading.{Walks, Surveys, ticksIn, readInto};
 ghost use Rattle.payload.specs.Filling.{Known, Went, BodyFits, put, bodyAt};
 ghost use Rattle.payload.specs.Promise.{Reads};
 use refusal::Refusal;
@@ -48,7 +48,7 @@ pub enum Reading {
 // The walk, from the payload's end to its front: all that is asked of a payload is asked here first. Octets that are no
 // part of a count are octets of a body, so only those of the counts are added up.
 pub fn walk(payload: &[u8]) -> Walked
-    ensures { λ r. ⌜ r ≡ walkedOf (readOf (now (payload .entry))) ⌝ }
+    ensures { λ r. ⌜ Walks (now (payload .entry)) r ⌝ }
 {
     if MOST_OCTETS < payload.len() {
         return Walked::Refused(Refusal {
@@ -105,7 +105,7 @@ fn ticks_in(payload: &[u8], extent: Extent) -> usize
 
 // What the payload holds, its ticks with it.
 pub fn survey(payload: &[u8]) -> Contents
-    ensures { λ r. ⌜ r ≡ contentsOf (readOf (now (payload .entry))) ⌝ }
+    ensures { λ r. ⌜ Surveys (now (payload .entry)) r ⌝ }
 {
     let walked = walk(payload);
     match walked {

@@ -13,10 +13,10 @@ enum-known-seen-2 : tie.Need-enum-known-seen-2
 enum-known-seen-2 c = search needs
 
 returns : tie.Need-returns
-returns c = packet-refused _ (λ i. c .before .before .before .before .shared-slice-known .given i .fits) (c .before .before .before .survey .ensures) _ (c .before .seen .given .1)
+returns c = packet-refused _ (λ i. c .before .before .before .before .shared-slice-known .given i .fits) (c .before .before .before .survey .ensures .answer) _ (c .before .seen .given .1)
 
 returns-2 : tie.Need-returns-2
-returns-2 c = packet-whole _ (λ i. c .before .before .before .before .shared-slice-known .given i .fits) (c .before .before .before .survey .ensures) _ (c .before .seen2 .given .1)
+returns-2 c = packet-whole _ (λ i. c .before .before .before .before .shared-slice-known .given i .fits) (c .before .before .before .survey .ensures .answer) _ (c .before .seen2 .given .1)
 
 pub packet-ticks-spec : {M : Type 1} → statement M
 packet-ticks-spec =

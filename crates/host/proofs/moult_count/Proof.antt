@@ -20,13 +20,13 @@ enum-known-walked-2 : tie.Need-enum-known-walked-2
 enum-known-walked-2 c = search needs
 
 cast-result-2 : tie.Need-cast-result-2
-cast-result-2 c = record { sfits = omega (arith, few _ (λ i. c .before .before .before .before .before .shared-slice-known .given i .fits) (c .before .before .before .before .walk .ensures) _ (c .before .before .walked2 .given .1)) }
+cast-result-2 c = record { sfits = omega (arith, few _ (λ i. c .before .before .before .before .before .shared-slice-known .given i .fits) (c .before .before .before .before .walk .ensures .answer) _ (c .before .before .walked2 .given .1)) }
 
 returns : tie.Need-returns
-returns c = count-refused _ (λ i. c .before .before .before .before .before .shared-slice-known .given i .fits) (c .before .before .before .before .walk .ensures) _ (c .before .before .walked .given .1) (omega arith)
+returns c = count-refused _ (λ i. c .before .before .before .before .before .shared-slice-known .given i .fits) (c .before .before .before .before .walk .ensures .answer) _ (c .before .before .walked .given .1) (omega arith)
 
 returns-2 : tie.Need-returns-2
-returns-2 c = count-whole _ (λ i. c .before .before .before .before .before .shared-slice-known .given i .fits) (c .before .before .before .before .walk .ensures) _ (c .before .before .walked2 .given .1)
+returns-2 c = count-whole _ (λ i. c .before .before .before .before .before .shared-slice-known .given i .fits) (c .before .before .before .before .walk .ensures .answer) _ (c .before .before .walked2 .given .1)
 
 pub moult-count-spec : {M : Type 1} → statement M
 moult-count-spec =

@@ -41,13 +41,13 @@ same-length : tie.Need-same-length
 same-length c = search needs
 
 returns : tie.Need-returns
-returns c = let z = c .before .before .before .before .before .before .before .before .before .before .before .before .before in line-whole (z .args .out .now) (z .args .at) (z .args .n) (z .args .payload .now) (c .before .before .before .before .before .before .before .before .before .before .survey .ensures) _ (c .before .before .before .before .before .before .before .before .contents .given .1) (c .before .before .before .before .wide .ensures) (c .before .before .before .wide2 .ensures) (c .before .before .put-row .ensures)
+returns c = let z = c .before .before .before .before .before .before .before .before .before .before .before .before .before in line-whole (z .args .out .now) (z .args .at) (z .args .n) (z .args .payload .now) (c .before .before .before .before .before .before .before .before .before .before .survey .ensures .answer) _ (c .before .before .before .before .before .before .before .before .contents .given .1) (c .before .before .before .before .wide .ensures) (c .before .before .before .wide2 .ensures) (c .before .before .put-row .ensures)
 
 same-length-2 : tie.Need-same-length-2
 same-length-2 c = search needs
 
 returns-2 : tie.Need-returns-2
-returns-2 c = let z = c .before .before .before .before .before .before .before .before .before .before .before .before .before in line-refused (z .args .out .now) (z .args .at) (z .args .n) (z .args .payload .now) (c .before .before .before .before .before .before .before .before .before .before .survey .ensures) _ (c .before .before .before .before .before .before .before .before .contents2 .given .1) refl (c .before .before .before .wide3 .ensures) (c .before .before .put-row2 .ensures)
+returns-2 c = let z = c .before .before .before .before .before .before .before .before .before .before .before .before .before in line-refused (z .args .out .now) (z .args .at) (z .args .n) (z .args .payload .now) (c .before .before .before .before .before .before .before .before .before .before .survey .ensures .answer) _ (c .before .before .before .before .before .before .before .before .contents2 .given .1) refl (c .before .before .before .wide3 .ensures) (c .before .before .put-row2 .ensures)
 
 pub put-line-spec : {M : Type 1} → statement M
 put-line-spec =

@@ -1,3 +1,4 @@
+use Rattle.payload.proofs.Seen.{walks}
 use native.Mathlib.Omega.{arith}
 use borrow.Author.Needs.{needs}
 use mathlib.Core.Path.{sym}
@@ -17,7 +18,7 @@ frame : (c : tie.After-found2 Inv-loop μ-loop) → Sized (c .before .before .be
 frame c = held-sized _ _ _ _ _ (c .before .before .before .before .before .loop .inv) (c .before .before .before .before .loop-test .taken) (λ i. c .before .before .before .before .before .before .before .shared-slice-known .given i .fits) _ (c .found2 .given .1) (c .before .before .step .ensures)
 
 returns : tie.Need-returns Inv-loop μ-loop
-returns c = too-long _ (omega arith)
+returns c = walks _ (too-long _ (omega arith))
 
 loop-holds : tie.Need-loop-holds Inv-loop μ-loop
 loop-holds c = held-start _ (omega arith)
@@ -32,7 +33,7 @@ enum-known-found : tie.Need-enum-known-found Inv-loop μ-loop
 enum-known-found c = search needs
 
 returns-2 : tie.Need-returns-2 Inv-loop μ-loop
-returns-2 c = held-bad _ _ _ _ _ (c .before .before .before .before .before .before .loop .inv) (c .before .before .before .before .before .loop-test .taken) _ (c .before .found .given .1) (c .before .before .before .step .ensures)
+returns-2 c = walks _ (held-bad _ _ _ _ _ (c .before .before .before .before .before .before .loop .inv) (c .before .before .before .before .before .loop-test .taken) _ (c .before .found .given .1) (c .before .before .before .step .ensures))
 
 enum-known-found-2 : tie.Need-enum-known-found-2 Inv-loop μ-loop
 enum-known-found-2 c = search needs
@@ -56,7 +57,7 @@ sub-t16 : tie.Need-sub-t16 Inv-loop μ-loop
 sub-t16 c = omega (arith, c .before .loop .inv .octets)
 
 returns-3 : tie.Need-returns-3 Inv-loop μ-loop
-returns-3 c = held-end _ _ _ _ _ (c .before .loop .inv) (c .loop-test .left)
+returns-3 c = walks _ (held-end _ _ _ _ _ (c .before .loop .inv) (c .loop-test .left))
 
 pub walk-spec : {M : Type 1} → statement M
 walk-spec =

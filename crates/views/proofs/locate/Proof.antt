@@ -13,13 +13,13 @@ enum-known-walked : tie.Need-enum-known-walked
 enum-known-walked c = search needs
 
 returns : tie.Need-returns
-returns c = row-past _ _ (λ i. c .before .before .before .before .before .shared-slice-known .given i .fits) (c .before .before .before .before .walk .ensures) _ (c .before .before .walked .given .1) (c .if1 .taken)
+returns c = row-past _ _ (λ i. c .before .before .before .before .before .shared-slice-known .given i .fits) (c .before .before .before .before .walk .ensures .answer) _ (c .before .before .walked .given .1) (c .if1 .taken)
 
 seek-requires : tie.Need-seek-requires
-seek-requires c κs = row-there _ _ (λ i. c .before .before .before .before .before .shared-slice-known .given i .fits) (c .before .before .before .before .walk .ensures) _ (c .before .before .walked .given .1) (c .if1 .left)
+seek-requires c κs = row-there _ _ (λ i. c .before .before .before .before .before .shared-slice-known .given i .fits) (c .before .before .before .before .walk .ensures .answer) _ (c .before .before .walked .given .1) (c .if1 .left)
 
 returns-2 : tie.Need-returns-2
-returns-2 c = row-refused _ _ (λ i. c .before .before .before .shared-slice-known .given i .fits) (c .before .before .walk .ensures) _ (c .enum-told .given .1)
+returns-2 c = row-refused _ _ (λ i. c .before .before .before .shared-slice-known .given i .fits) (c .before .before .walk .ensures .answer) _ (c .enum-told .given .1)
 
 returns-3 : tie.Need-returns-3
 returns-3 c = search needs
