@@ -1,6 +1,6 @@
 // Lists the payloads of the files that its arguments name, in order, as one input; of standard input where there are no
-// arguments. Where a read or a write fails, it says so on standard error and stops: the lines before it stand, and no last
-// line follows them.
+// arguments. The argument `-` names standard input, and `--next` ends a listing and begins another. Where a read or a write
+// fails, it says so on standard error and stops: the lines before it stand, and no last line follows them.
 ghost use Prim.Native.Nat.{_≤_};
 ghost use lib.ListN.{length};
 use libc::STDIN_FILENO;
@@ -151,16 +151,80 @@ fn list_descriptor(
     }
 }
 
-// Lists the file that an argument names.
+// Lists a file.
 fn list_file(
+    state: State,
+    name: &[u8],
+    input: &mut [u8],
+    payload: &mut [u8],
+    out: &mut [u8],
+) -> Run {
+    let fd = os::open_read(name);
+    if fd < 0 {
+        os::fail(name);
+        return Run {
+            state,
+            is_on: false,
+        };
+    }
+    let run = list_descriptor(state, fd, name, input, payload, out);
+    libc::close(fd);
+    run
+}
+
+// Writes the last line, and answers whether that went well.
+fn write_last(state: State, out: &mut [u8]) -> bool {
+    let closed = listing::close(state, out);
+    match closed {
+        Closed::Wrote(n) => write_front(out, n),
+        Closed::Refused(_) => false,
+    }
+}
+
+fn is_same(a: &[u8], b: &[u8]) -> bool {
+    if a.len() != b.len() {
+        return false;
+    }
+    let mut i: usize = 0;
+    while i < a.len() {
+        if a[i] != b[i] {
+            return false;
+        }
+        i += 1;
+    }
+    true
+}
+
+// Does what a word among the arguments says.
+fn follow_word(
+    state: State,
+    word: &[u8],
+    input: &mut [u8],
+    payload: &mut [u8],
+    out: &mut [u8],
+) -> Run {
+    if is_same(word, b"-") {
+        return list_descriptor(state, STDIN_FILENO, b"standard input", input, payload, out);
+    }
+    if is_same(word, b"--next") {
+        return Run {
+            state: listing::start(),
+            is_on: write_last(state, out),
+        };
+    }
+    list_file(state, word, input, payload, out)
+}
+
+// Does what an argument says.
+fn follow_argument(
     state: State,
     argument: usize,
     input: &mut [u8],
     payload: &mut [u8],
     out: &mut [u8],
 ) -> Run {
-    let mut name = io::buffer();
-    let n = os::arg(argument, &mut name);
+    let mut word = io::buffer();
+    let n = os::arg(argument, &mut word);
     if os::errno() != 0 {
         os::fail(b"argument");
         return Run {
@@ -168,21 +232,11 @@ fn list_file(
             is_on: false,
         };
     }
-    let fd = os::open_read(&name[..n]);
-    if fd < 0 {
-        os::fail(&name[..n]);
-        return Run {
-            state,
-            is_on: false,
-        };
-    }
-    let run = list_descriptor(state, fd, &name[..n], input, payload, out);
-    libc::close(fd);
-    run
+    follow_word(state, &word[..n], input, payload, out)
 }
 
-// Lists the files that the arguments name, as one input.
-fn list_files(
+// Does what the arguments say, one after another.
+fn follow_arguments(
     state: State,
     count: usize,
     input: &mut [u8],
@@ -192,7 +246,7 @@ fn list_files(
     let mut state = state;
     let mut i: usize = 1;
     while i < count {
-        let run = list_file(state, i, input, payload, out);
+        let run = follow_argument(state, i, input, payload, out);
         let next = run.state;
         state = next;
         if !run.is_on {
@@ -210,18 +264,7 @@ fn list_input(input: &mut [u8], payload: &mut [u8], out: &mut [u8]) -> Run {
     if count < 2 {
         return list_descriptor(state, STDIN_FILENO, b"standard input", input, payload, out);
     }
-    list_files(state, count, input, payload, out)
-}
-
-// Writes the last line.
-fn write_last(state: State, out: &mut [u8]) {
-    let closed = listing::close(state, out);
-    match closed {
-        Closed::Wrote(n) => {
-            write_front(out, n);
-        }
-        Closed::Refused(_) => {}
-    }
+    follow_arguments(state, count, input, payload, out)
 }
 
 fn main() {

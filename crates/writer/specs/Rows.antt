@@ -47,6 +47,16 @@ rowOf n t =
     (cond (eqb n (number noise)) (tcOf noise t)
     (cond (eqb n (number tsvcis)) (tcOf tsvcis t) (bad unknownKind)))))
 
+-- "m being the lengths of the bodies added up"
+abbrev pub bodyOctets : List Row → ℕ
+bodyOctets [] = 0
+bodyOctets (x ∷ xs) = size (x .kind) + x .tc + bodyOctets xs
+
+-- "its octets total": what frames of these kinds and TCs take on the wire
+abbrev pub wireOctets : List Row → ℕ
+wireOctets [] = 0
+wireOctets (x ∷ xs) = wireLength (x .kind) (x .tc) + wireOctets xs
+
 -- the rows that a list of numbers holds, or a refusal's number and place
 pub data Rows : Type 0 where
   held : List Row → Rows
@@ -64,16 +74,6 @@ abbrev pub rowByRow : List Row → ℕ → List ℕ → Rows
 rowByRow passed s [] = held passed
 rowByRow passed s (n ∷ []) = held passed
 rowByRow passed s (n ∷ t ∷ rest) = passRow passed (beside (length rest) s (rowOf n t)) (λ x. rowByRow (passed ++ (x ∷ [])) (rate (x .kind)) rest)
-
--- "m being the lengths of the bodies added up"
-abbrev pub bodyOctets : List Row → ℕ
-bodyOctets [] = 0
-bodyOctets (x ∷ xs) = size (x .kind) + x .tc + bodyOctets xs
-
--- "its octets total": what frames of these kinds and TCs take on the wire
-abbrev pub wireOctets : List Row → ℕ
-wireOctets [] = 0
-wireOctets (x ∷ xs) = wireLength (x .kind) (x .tc) + wireOctets xs
 
 -- "1 for the total": more than 1,400 octets on the wire
 abbrev pub totalOf : Rows → Rows

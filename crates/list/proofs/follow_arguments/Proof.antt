@@ -2,8 +2,8 @@ use mathlib.Core.Path.{_≡_}
 use Prim.Native.Nat.{_≤_, _-_}
 use lib.ListN.{length}
 use borrow.Author.Needs.{needs}
-use Rattle.list.proofs.list_files.Statement.{statement}
-use Rattle.list.proofs.list_files.Tie as tie
+use Rattle.list.proofs.follow_arguments.Statement.{statement}
+use Rattle.list.proofs.follow_arguments.Tie as tie
 
 abbrev Inv-loop : tie.InvT-loop
 Inv-loop count input₀ payload₀ out₀ state₀ i₀ input payload out state i = (length input ≡ length input₀) × (length payload ≡ length payload₀) × (length out ≡ length out₀)
@@ -14,8 +14,8 @@ abbrev μ-loop : tie.MeasureT-loop
 loop-holds : tie.Need-loop-holds Inv-loop μ-loop
 loop-holds c = search needs
 
-list-file-requires : tie.Need-list-file-requires Inv-loop μ-loop
-list-file-requires c κs = search needs
+follow-argument-requires : tie.Need-follow-argument-requires Inv-loop μ-loop
+follow-argument-requires c κs = search needs
 
 same-length : tie.Need-same-length Inv-loop μ-loop
 same-length c = search needs
@@ -50,14 +50,14 @@ same-length-6 c = search needs
 returns-2 : tie.Need-returns-2 Inv-loop μ-loop
 returns-2 c = search needs
 
-pub list-files-spec : {M : Type 1} → statement M
-list-files-spec =
+pub follow-arguments-spec : {M : Type 1} → statement M
+follow-arguments-spec =
     tie.close
     (tie.spec
     Inv-loop
     μ-loop
     loop-holds
-    list-file-requires
+    follow-argument-requires
     same-length
     same-length-2
     same-length-3
