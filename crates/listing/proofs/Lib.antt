@@ -6,5 +6,5 @@ pub mod Carrying
 pub mod Forward
 pub mod Entries
 pub mod Joined
-pub mod RefusedLine
+pub mod Distinct
 pub mod Sample

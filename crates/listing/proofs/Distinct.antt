@@ -1,18 +1,20 @@
--- The line of a refused payload is never that of an accepted one, an empty one among them, whatever their numbers.
+-- Lines differ, whatever their numbers: that of a refused payload from that of any accepted one, and that of a payload with
+-- frames from that of an empty one.
 use mathlib.Core.Path.{_≡_, refl, sym, ap, _∙_}
 use mathlib.Core.Logic.{_⊎_, inl, inr}
 use mathlib.Core.List.{List, [], _∷_, _++_}
 use Prim.Native.Nat.{ℕ, zero, suc, _+_, _/_, _%_, _≤_, _<_}
 use native.Mathlib.Omega.{arith}
+use lib.ListN.{length}
 use Rattle.refusal.specs.declared.Refusal.{Refusal}
 use Rattle.wire.specs.Frame.{Frame}
-use Rattle.wire.specs.Walk.{refused, readOf}
-use Rattle.payload.specs.Reading.{contentsOf}
+use Rattle.wire.specs.Walk.{at, refused, readOf}
+use Rattle.payload.specs.Reading.{contentsOf, totals}
 use Rattle.payload.specs.declared.Totals.{Totals}
 use Rattle.payload.specs.declared.Contents.the-variants.{Whole, Refused}
 use Rattle.leb128.proofs.Steps.{below-or}
 use Rattle.listing.specs.Line.{digits, decimal, okWord, refusedWord, row, lineOf, payloadLine}
-use Rattle.listing.proofs.Digits.{digits-one, digits-more}
+use Rattle.listing.proofs.Digits.{digits-one, digits-more, valueFrom, decimal-value}
 
 -- every octet is a digit, or beyond one
 abbrev NoSpace : List ℕ → Type 0
@@ -42,6 +44,16 @@ behind-space [] (e ∷ es) xs ys a b q = absurd (let z : 32 ≡ e = cc in omega 
 behind-space (d ∷ ds) [] xs ys a b q = absurd (let z : d ≡ 32 = cc in omega (arith, a .0))
 behind-space (d ∷ ds) (e ∷ es) xs ys a b q = behind-space ds es xs ys (a .1) (b .1) (let z : ds ++ (32 ∷ xs) ≡ es ++ (32 ∷ ys) = cc in z)
 
+-- what stands before it
+before-space : (ds es xs ys : List ℕ) → NoSpace ds → NoSpace es → ds ++ (32 ∷ xs) ≡ es ++ (32 ∷ ys) → ds ≡ es
+before-space [] [] xs ys a b q = refl
+before-space [] (e ∷ es) xs ys a b q = absurd (let z : 32 ≡ e = cc in omega (arith, b .0))
+before-space (d ∷ ds) [] xs ys a b q = absurd (let z : d ≡ 32 = cc in omega (arith, a .0))
+before-space (d ∷ ds) (e ∷ es) xs ys a b q =
+    let z : d ≡ e = cc in
+    let w : ds ≡ es = before-space ds es xs ys (a .1) (b .1) (let y : ds ++ (32 ∷ xs) ≡ es ++ (32 ∷ ys) = cc in y) in
+    cc
+
 rows-differ : (n m a b x y : ℕ) → row n refusedWord a b ≡ row m okWord x y → ⊥
 rows-differ n m a b x y q =
     let r = behind-space (decimal n) (decimal m) _ _ (decimal-plain n) (decimal-plain m) q in
@@ -61,3 +73,18 @@ pub refused-not-empty : (p : List ℕ) (n m k place : ℕ) (later : List Frame) 
 unfolding readOf
 refused-not-empty p n m k place later ep e =
     refused-line p [] n m k place later (record { frames = 0; octets = 0; ticks = 0 }) ep refl e
+
+-- two lines of accepted payloads: as many frames
+same-frames : (n m a b x y : ℕ) → a < 18446744073709551616 → x < 18446744073709551616 → row n okWord a b ≡ row m okWord x y → a ≡ x
+same-frames n m a b x y la lx q =
+    let r = behind-space (decimal n) (decimal m) _ _ (decimal-plain n) (decimal-plain m) q in
+    let s : decimal a ++ (32 ∷ (decimal b ++ (10 ∷ []))) ≡ decimal x ++ (32 ∷ (decimal y ++ (10 ∷ []))) = cc in
+    let d : decimal a ≡ decimal x = before-space (decimal a) (decimal x) _ _ (decimal-plain a) (decimal-plain x) s in
+    sym (decimal-value a la) ∙ ap (valueFrom 0) d ∙ decimal-value x lx
+
+pub frames-not-empty : (p : List ℕ) (n m : ℕ) (fs : List Frame) → readOf p ≡ at 0 fs → 1 ≤ length fs → length fs ≤ 200
+    → payloadLine n p ≡ payloadLine m [] → ⊥
+unfolding readOf
+frames-not-empty p n m fs ep h l e =
+    let z : length fs ≡ 0 = same-frames n m (length fs) (totals fs .ticks) 0 0 (omega arith) (omega arith) (sym (ap (λ w. lineOf n (contentsOf w)) ep) ∙ e) in
+    omega arith
