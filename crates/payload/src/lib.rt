@@ -119,49 +119,13 @@ pub fn survey(payload: &[u8]) -> Contents
 }
 
 // Copies len octets of src, from an index on, into dst at an index.
-fn copy_part(src: &[u8], from: usize, len: usize, dst: &mut [u8], at: usize)
-    requires { ⌜ (from + len ≤ length (now src)) × (at + len ≤ length (now dst)) ⌝ }
-    ensures { λ _. ⌜ now (dst .exit) ≡ paste (now (dst .entry)) at (drop from (now (src .entry))) len ⌝ }
-{
-    let mut j = 0;
-    while j < len {
-        dst[at + j] = src[from + j];
-        j += 1;
-    }
-}
-
-// The same for seven octets, all read before the first is stored: the compiler then moves them as words.
-fn copy_seven(src: &[u8], from: usize, dst: &mut [u8], at: usize)
-    requires { ⌜ (from + 7 ≤ length (now src)) × (at + 7 ≤ length (now dst)) ⌝ }
-    ensures { λ _. ⌜ now (dst .exit) ≡ paste (now (dst .entry)) at (drop from (now (src .entry))) 7 ⌝ }
-{
-    let a = src[from];
-    let b = src[from + 1];
-    let c = src[from + 2];
-    let d = src[from + 3];
-    let e = src[from + 4];
-    let f = src[from + 5];
-    let g = src[from + 6];
-    dst[at] = a;
-    dst[at + 1] = b;
-    dst[at + 2] = c;
-    dst[at + 3] = d;
-    dst[at + 4] = e;
-    dst[at + 5] = f;
-    dst[at + 6] = g;
-}
-
-// The same for any number of octets: nearly every base has seven.
 fn copy_octets(src: &[u8], from: usize, len: usize, dst: &mut [u8], at: usize)
     requires { ⌜ (from + len ≤ length (now src)) × (at + len ≤ length (now dst)) ⌝ }
     ensures { λ _. ⌜ now (dst .exit) ≡ paste (now (dst .entry)) at (drop from (now (src .entry))) len ⌝ }
 {
-    if len < 7 {
-        copy_part(src, from, len, dst, at);
-        return;
-    }
-    copy_seven(src, from, dst, at);
-    copy_part(src, from + 7, len - 7, dst, at + 7);
+    let end = from + len;
+    let to = at + len;
+    octets::copy(&src[from..end], &mut dst[at..to]);
 }
 
 // The body of the frame whose octets start at an index of the payload, into dst.
