@@ -12,6 +12,10 @@ use Rattle.wire.specs.declared.Shape.{Shape}
 use Rattle.wire.specs.declared.Found.{Found}
 use Rattle.wire.specs.declared.Found.the-variants.{Bad, Got}
 
+-- the numbers of a frame whose base is all of it
+abbrev pub plainShape : ℕ → ℕ → ℕ → ℕ → Shape
+plainShape n k c r = record { kind = n; tc = 0; size = k; code = c; rate = r; wire = k; count = 0 }
+
 -- a frame of these numbers, where `later` frames behind it are read, of the rate s
 unfoldable pub besideShape : ℕ → ℕ → Shape → Found
 besideShape later s x =

@@ -5,7 +5,7 @@ ghost use mathlib.Core.List.{[]};
 ghost use lib.ListN.{length};
 ghost use Rattle.wire.specs.Frame.{bps2400, bps1200, bps600, noise, tsvcis, ticksOfRate};
 ghost use Rattle.wire.specs.Walk.{named, counted, ending, whole, lastFrame, beside, foundOf, shapeOf};
-ghost use Rattle.wire.specs.Step.{besideShape, wholeShape, Augmented, CountIs};
+ghost use Rattle.wire.specs.Step.{plainShape, besideShape, wholeShape, Augmented, CountIs};
 
 // A frame's numbers: kind and TC as in a row, octets of its base, rate code bits, rate, octets on the wire and the
 // octets of its count among them.
@@ -49,60 +49,43 @@ pub fn ticks_of_rate(rate: u32) -> usize
 
 // ---- the shapes
 
+// A kind without augmentation, whose base is all that stands on the wire.
+fn plain(kind: u16, size: usize, code: u8, rate: u32) -> Shape
+    ensures { λ r. ⌜ r ≡ plainShape kind size code rate ⌝ }
+{
+    Shape {
+        kind,
+        tc: 0,
+        size,
+        code,
+        rate,
+        wire: size,
+        count: 0,
+    }
+}
+
 fn shape_2400() -> Shape
     ensures { λ r. ⌜ r ≡ shapeOf bps2400 0 ⌝ }
 {
-    Shape {
-        kind: 1,
-        tc: 0,
-        size: 7,
-        code: 0,
-        rate: 2400,
-        wire: 7,
-        count: 0,
-    }
+    plain(1, 7, 0, 2400)
 }
 
 fn shape_1200() -> Shape
     ensures { λ r. ⌜ r ≡ shapeOf bps1200 0 ⌝ }
 {
-    Shape {
-        kind: 2,
-        tc: 0,
-        size: 11,
-        code: 128,
-        rate: 1200,
-        wire: 11,
-        count: 0,
-    }
+    plain(2, 11, 128, 1200)
 }
 
 fn shape_600() -> Shape
     ensures { λ r. ⌜ r ≡ shapeOf bps600 0 ⌝ }
 {
-    Shape {
-        kind: 3,
-        tc: 0,
-        size: 7,
-        code: 64,
-        rate: 600,
-        wire: 7,
-        count: 0,
-    }
+    plain(3, 7, 64, 600)
 }
 
 fn shape_noise() -> Shape
     ensures { λ r. ⌜ r ≡ shapeOf noise 0 ⌝ }
 {
-    Shape {
-        kind: 4,
-        tc: 0,
-        size: 2,
-        code: 160,
-        rate: 0,
-        wire: 2,
-        count: 0,
-    }
+    plain(4, 2, 160, 0)
 }
 
 // A TSVCIS frame of this TC, whose count takes `count` octets.
