@@ -1,4 +1,5 @@
-use Rattle.octets.proofs.Parts.{copied-part}
+use mathlib.Core.Path.{refl}
+use Rattle.octets.proofs.Parts.{part-copied}
 use borrow.Author.Needs.{needs}
 use Rattle.payload.proofs.copy_octets.Statement.{statement}
 use Rattle.payload.proofs.copy_octets.Tie as tie
@@ -34,7 +35,7 @@ same-length : tie.Need-same-length
 same-length c = search needs
 
 returns : tie.Need-returns
-returns c = copied-part _ _ _ _ _ _ (c .before .before .before .before .before .before .before .pre .0) (c .before .before .before .before .before .before .before .pre .1) (c .before .before .copy .ensures)
+returns c = part-copied _ _ _ _ _ _ _ refl refl (c .before .before .before .before .before .before .before .pre .0) (c .before .before .before .before .before .before .before .pre .1) (c .before .before .copy .ensures) refl
 
 pub copy-octets-spec : {M : Type 1} → statement M
 copy-octets-spec =
