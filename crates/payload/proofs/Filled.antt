@@ -14,7 +14,7 @@ use Rattle.wire.proofs.Complete.{stay}
 use Rattle.wire.proofs.Ended.{Whole}
 use Rattle.wire.proofs.Sound.{length-base}
 use Rattle.payload.specs.Reading.{settle, readInto}
-use Rattle.payload.specs.Filling.{put, bodyAt, Known}
+use Rattle.payload.specs.Filling.{put, bodyAt, BodyFits, FrameFits, Known}
 use Rattle.payload.proofs.Held.{Sized, sized}
 use Rattle.payload.proofs.Onward.{Onward, onward, onward-bad, onward-shape, onward-whole, grows, read-run}
 use Rattle.payload.proofs.Stored.{rows-back, body-back, length-put}
@@ -131,6 +131,21 @@ module _ (p r₀ b₀ : List ℕ) (u i o : ℕ) (r b : List ℕ) (h : Filled p r
 
     pub turned : (x : Shape) {f : Found} → f ≡ Got x → f ≡ foundOf (ending (take u p) (length (take u p))) → Turned p r₀ b₀ u i o r b x
     turned x a e = rw (onward-shape p u (h .later) (h .fs) (h .inside) on x a e) (turned-at on)
+
+-- there is room for the frame
+pub turned-fits : {p r₀ b₀ : List ℕ} {u i o : ℕ} {r b : List ℕ} {x : Shape} → Turned p r₀ b₀ u i o r b x
+    → FrameFits p (u - x .wire) x (length r) (i - 1) (length b) (o - (x .size + x .tc))
+turned-fits w = record {
+  row = omega (arith, w .some, w .in-rows);
+  few = omega (arith, w .frame .less);
+  body = record {
+    inside = omega (arith, w .frame .room, w .frame .body, w .inside);
+    room = omega (arith, w .has, w .in-bodies);
+    based = w .frame .based;
+    coded = w .coded;
+  };
+  plain = w .frame .plain;
+}
 
 -- the same, at what the calls left
 pub turned-then : {p r₀ b₀ : List ℕ} {u i o : ℕ} {r b : List ℕ} {x : Shape} {r′ b′ : List ℕ} → Turned p r₀ b₀ u i o r b x

@@ -6,7 +6,7 @@ use Prim.Native.Nat.{ℕ, zero, suc, _+_, _-_, _*_, _≤_, _<_}
 use native.Mathlib.Omega.{arith}
 use lib.ListN.{length, take, length-append, length-set}
 use borrow.Author.Tests.{lt-ltb, le-ltb}
-use Rattle.wire.specs.Frame.{Frame, Kind, Octets, size, rate, countOf, wireLength, bodiesOf}
+use Rattle.wire.specs.Frame.{Frame, Kind, bps2400, bps1200, bps600, noise, tsvcis, LegalTc, Octets, number, size, rate, countOf, wireLength, bodiesOf}
 use Rattle.wire.specs.Walk.{Ending, bad, got, lastFrame, beside, late, clash, seen, turn, next, frameAt, run, readOf, Walk, at, refused, shapeOf, foundOf}
 use Rattle.wire.specs.declared.Shape.{Shape}
 use Rattle.wire.specs.declared.Found.{Found}
@@ -39,6 +39,14 @@ pub record Sized (u : ℕ) (x : Shape) : Type 0 where
   pub based : 1 ≤ x .size
   pub less : x .tc < 256
   pub parts : x .size + x .tc + x .count ≡ x .wire
+  pub plain : x .kind ≡ 1 → x ≡ shapeOf bps2400 0
+
+plain-shape : (k : Kind) (t : ℕ) → LegalTc k t → number k ≡ 1 → shapeOf k t ≡ shapeOf bps2400 0
+plain-shape bps2400 t l e = ap (shapeOf bps2400) l
+plain-shape bps1200 t l e = absurd (omega arith)
+plain-shape bps600 t l e = absurd (omega arith)
+plain-shape noise t l e = absurd (omega arith)
+plain-shape tsvcis t l e = absurd (omega arith)
 
 pub sized : (p : List ℕ) (u : ℕ) (k : Kind) (t : ℕ) → Whole p u k t → Sized u (shapeOf k t)
 sized p u k t w = record {
@@ -48,6 +56,7 @@ sized p u k t w = record {
   based = omega (arith, size-pos k);
   less = tc-most k t (w .tc);
   parts = refl;
+  plain = plain-shape k t (w .tc);
 }
 
 -- u octets are unread; n frames behind them with q octets of counts and the rate s are read

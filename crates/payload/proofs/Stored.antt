@@ -2,12 +2,14 @@
 use mathlib.Core.Path.{_≡_, refl, sym, ap, _∙_}
 use mathlib.Core.List.{List, [], _∷_, _++_, append-assoc}
 use Prim.Native.Nat.{ℕ, zero, suc, _+_, _-_, _*_, _≤_, _<_}
-use native.Mathlib.Nat.{zero-add, suc-add, le-of-suc-le-suc}
+use native.Mathlib.Nat.{zero-add, sub-zero, suc-add, le-of-suc-le-suc}
 use native.Mathlib.Omega.{arith}
 use lib.ListN.{length, getD, set, take, drop, length-set, length-drop, length-take, length-append}
-use lib.Seq.{paste, set-append-left, length-take-le, take-append-le, take-take, drop-at}
+use lib.Seq.{paste, getD-take, getD-drop, set-getD, set-append-left, length-take-le, take-append-le, take-take, drop-at}
+use Rattle.wire.specs.Frame.{bps2400}
+use Rattle.wire.specs.Walk.{shapeOf}
 use Rattle.wire.specs.declared.Shape.{Shape}
-use Rattle.payload.specs.Filling.{put, bodyAt, BodyFits}
+use Rattle.payload.specs.Filling.{put, bodyAt, BodyFits, FrameFits}
 
 set-append-add : (xs ys : List ℕ) (i v : ℕ) → set (xs ++ ys) (length xs + i) v ≡ xs ++ set ys i v
 set-append-add [] ys i v = ap (λ (k : ℕ). set ys k v) (zero-add i)
@@ -32,6 +34,23 @@ body-put p d a x o {e} h ee =
     let l : length (bodyAt p a x) ≡ x .size + x .tc = simp length-set m in
     rw (ee, l)
     (set-pasted d (drop a p) o (x .size + x .tc) (x .size - 1) (getD p (a + (x .size - 1)) 0 - x .code) (h .room) (simp length-drop (omega (arith, h .inside))) (omega (arith, h .based)))
+
+-- a 2400 bps frame, whose numbers are known: its body is copied as it stands
+module _ (p : List ℕ) (a : ℕ) (x : Shape) (r d : List ℕ) (i o : ℕ) (h : FrameFits p a x (length r) i (length d) o) (is : x .kind ≡ 1) where
+  q : x ≡ shapeOf bps2400 0
+  q = h .plain is
+
+  pub plain-fits : (a + 7 ≤ length p) × (o + 7 ≤ length d)
+  plain-fits = (rw q at (h .body .inside), rw q at (h .body .room))
+
+  pub plain-put : {r′ d′ : List ℕ} → r′ ≡ set (set r (2 * i) 1) (2 * i + 1) 0 → d′ ≡ paste d o (drop a p) 7
+      → (r′ ≡ set (set r (2 * i) (x .kind)) (2 * i + 1) (x .tc)) × (d′ ≡ put d o (bodyAt p a x))
+  plain-put er ed =
+      let b : List ℕ = take 7 (drop a p) in
+      let m : length b ≡ 7 = length-take-le 7 (drop a p) (simp length-drop (omega (arith, plain-fits .0))) in
+      let last : getD b 6 0 ≡ getD p (a + 6) 0 - 0 = getD-take 7 (drop a p) 6 0 (omega arith) ∙ getD-drop a p 6 0 ∙ sym (sub-zero (getD p (a + 6) 0)) in
+      let same : bodyAt p a (shapeOf bps2400 0) ≡ b = ap (λ (v : ℕ). set b 6 v) (sym last) ∙ set-getD b 6 0 in
+      rw q (er, ed ∙ rw same (ap (λ (k : ℕ). take o d ++ b ++ drop (o + k) d) (sym m)))
 
 -- two stores behind what is left make it two shorter
 two-back : (k : ℕ) (xs rest : List ℕ) (a b : ℕ) → suc (suc k) ≤ length xs

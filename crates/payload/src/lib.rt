@@ -5,7 +5,7 @@ ghost use lib.ListN.{length, set, drop};
 ghost use lib.Seq.{paste};
 ghost use Rattle.wire.specs.Walk.{readOf};
 ghost use Rattle.payload.specs.Reading.{Walks, Surveys, ticksIn, readInto};
-ghost use Rattle.payload.specs.Filling.{Known, Went, BodyFits, put, bodyAt};
+ghost use Rattle.payload.specs.Filling.{Known, Went, BodyFits, FrameFits, put, bodyAt};
 ghost use Rattle.payload.specs.Promise.{Reads};
 use refusal::Refusal;
 use wire::Found;
@@ -146,6 +146,30 @@ fn put_row(rows: &mut [u16], i: usize, kind: u16, tc: usize)
     rows[2 * i + 1] = tc as u16;
 }
 
+// The row and the body of the frame whose octets start at an index of the payload. A 2400 bps frame, the commonest, goes its own
+// way, with its numbers known.
+fn put_frame(
+    payload: &[u8],
+    start: usize,
+    shape: Shape,
+    rows: &mut [u16],
+    i: usize,
+    bodies: &mut [u8],
+    at: usize,
+)
+    requires { ⌜ FrameFits (now payload) start shape (length (now rows)) i (length (now bodies)) at ⌝ }
+    ensures { λ _. ⌜ (now (rows .exit) ≡ set (set (now (rows .entry)) (2 * i) (shape .kind)) (2 * i + 1) (shape .tc))
+        × (now (bodies .exit) ≡ put (now (bodies .entry)) at (bodyAt (now (payload .entry)) start shape)) ⌝ }
+{
+    if shape.kind == 1 {
+        put_row(rows, i, 1, 0);
+        copy_octets(payload, start, 7, bodies, at);
+        return;
+    }
+    put_row(rows, i, shape.kind, shape.tc);
+    put_body(payload, start, shape, bodies, at);
+}
+
 // The rows and bodies of a payload that is known to hold n frames with m octets of bodies, from the last to the first.
 fn fill(payload: &[u8], rows: &mut [u16], bodies: &mut [u8], n: usize, m: usize)
     requires { ⌜ Known (now payload) n m (length (now rows)) (length (now bodies)) ⌝ }
@@ -165,8 +189,7 @@ fn fill(payload: &[u8], rows: &mut [u16], bodies: &mut [u8], n: usize, m: usize)
                 unread -= shape.wire;
                 i -= 1;
                 o -= shape.size + shape.tc;
-                put_row(rows, i, shape.kind, shape.tc);
-                put_body(payload, unread, shape, bodies, o);
+                put_frame(payload, unread, shape, rows, i, bodies, o);
             }
         }
     }

@@ -2,7 +2,7 @@ use native.Mathlib.Omega.{arith}
 use mathlib.Core.Path.{sym}
 use lib.Seq.{length-take-le}
 use borrow.Author.Needs.{needs}
-use Rattle.payload.proofs.Filled.{Filled, Turned, filled-start, filled-end, filled-bad, turned, turned-then}
+use Rattle.payload.proofs.Filled.{Filled, Turned, filled-start, filled-end, filled-bad, turned, turned-fits, turned-then}
 use Rattle.payload.proofs.fill.Statement.{statement}
 use Rattle.payload.proofs.fill.Tie as tie
 
@@ -54,24 +54,14 @@ add-o c = let w = turn (c .before .before .before) in omega (arith, w .has, w .i
 sub-o : tie.Need-sub-o Inv-loop μ-loop
 sub-o c = turn (c .before .before .before) .has
 
-put-row-requires : tie.Need-put-row-requires Inv-loop μ-loop
-put-row-requires c κs = let w = turn (c .before .before .before .before) in (omega (arith, w .some, w .in-rows), omega (arith, w .frame .less))
-
-put-body-requires : tie.Need-put-body-requires Inv-loop μ-loop
-put-body-requires c κs =
-    let w = turn (c .before .before .before .before .before .before .before .before) in
-    record {
-      inside = omega (arith, w .frame .room, w .frame .body, w .inside);
-      room = omega (arith, w .has, w .in-bodies);
-      based = w .frame .based;
-      coded = w .coded;
-    }
+put-frame-requires : tie.Need-put-frame-requires Inv-loop μ-loop
+put-frame-requires c κs = turned-fits (turn (c .before .before .before .before .before))
 
 loop-less : tie.Need-loop-less Inv-loop μ-loop
-loop-less c = omega (arith, turn (c .before .before .before .before .before .before .before .before .before .before .before) .frame .some, c .before .before .before .before .before .before .before .before .before .before .before .before .before .before .before .loop-test .taken)
+loop-less c = omega (arith, turn (c .before .before .before .before .before .before .before .before .before .before) .frame .some, c .before .before .before .before .before .before .before .before .before .before .before .before .before .before .loop-test .taken)
 
 loop-again : tie.Need-loop-again Inv-loop μ-loop
-loop-again c = turned-then (turn (c .before .before .before .before .before .before .before .before .before .before .before)) (c .before .before .before .before .before .before .put-row .ensures) (c .before .before .put-body .ensures)
+loop-again c = turned-then (turn (c .before .before .before .before .before .before .before .before .before .before)) (c .before .before .before .before .put-frame .ensures .0) (c .before .before .before .before .put-frame .ensures .1)
 
 same-length-3 : tie.Need-same-length-3 Inv-loop μ-loop
 same-length-3 c = c .before .loop .inv .r-long
@@ -100,8 +90,7 @@ fill-spec =
     sub-i
     add-o
     sub-o
-    put-row-requires
-    put-body-requires
+    put-frame-requires
     loop-less
     loop-again
     same-length-3
