@@ -161,8 +161,8 @@ fn put_frame(
     ensures { λ _. ⌜ (now (rows .exit) ≡ set (set (now (rows .entry)) (2 * i) (shape .kind)) (2 * i + 1) (shape .tc))
         × (now (bodies .exit) ≡ put (now (bodies .entry)) at (bodyAt (now (payload .entry)) start shape)) ⌝ }
 {
-    if shape.kind == 1 {
-        put_row(rows, i, 1, 0);
+    if shape.kind == wire::PLAIN_2400 {
+        put_row(rows, i, wire::PLAIN_2400, 0);
         copy_octets(payload, start, 7, bodies, at);
         return;
     }

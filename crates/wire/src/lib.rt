@@ -7,6 +7,9 @@ ghost use Rattle.wire.specs.Frame.{bps2400, bps1200, bps600, noise, tsvc
 ghost use Rattle.wire.specs.Walk.{named, counted, ending, whole, lastFrame, beside, foundOf, shapeOf};
 ghost use Rattle.wire.specs.Step.{plainShape, besideShape, wholeShape, Augmented, CountIs};
 
+// The kind of a 2400 bps frame without augmentation, the commonest.
+pub const PLAIN_2400: u16 = 1;
+
 // A frame's numbers: kind and TC as in a row, octets of its base, rate code bits, rate, octets on the wire and the
 // octets of its count among them.
 pub struct Shape {
@@ -67,7 +70,7 @@ fn plain(kind: u16, size: usize, code: u8, rate: u32) -> Shape
 fn shape_2400() -> Shape
     ensures { λ r. ⌜ r ≡ shapeOf bps2400 0 ⌝ }
 {
-    plain(1, 7, 0, 2400)
+    plain(PLAIN_2400, 7, 0, 2400)
 }
 
 fn shape_1200() -> Shape
