@@ -54,7 +54,7 @@ module _ (ws fields : List ℕ) where
   seeking-end i h e = omega (arith, rw (drop-of-length-le ws {i = i} (omega arith)) at (h .rest))
 
 -- where none is too large, all fit, and the other way round
-fits-one : (v w : ℕ) (n k : ℕ) → suc n ≤ cond (ltb v (2 ^ w)) (suc k) 0 → (v < 2 ^ w) × (n ≤ k)
+pub fits-one : (v w : ℕ) (n k : ℕ) → suc n ≤ cond (ltb v (2 ^ w)) (suc k) 0 → (v < 2 ^ w) × (n ≤ k)
 fits-one v w n k h = go (decLt v (2 ^ w))
   where
     go : Dec (v < 2 ^ w) → (v < 2 ^ w) × (n ≤ k)

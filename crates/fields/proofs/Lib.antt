@@ -2,11 +2,14 @@ pub mod Digits
 pub mod Octets
 pub mod Placed
 pub mod Tables
+pub mod Shifts
+pub mod Words
+pub mod Turning
 pub mod RoundTrip
 pub mod Modes
-pub mod Spelling
+pub mod Taking
 pub mod Filled
-pub mod Putting
 pub mod Large
+pub mod Gathering
 pub mod Answers
 pub mod Theorems

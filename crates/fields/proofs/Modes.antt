@@ -1,15 +1,15 @@
 -- Laws of the modes, and the rule of their table of widths.
-use mathlib.Core.Path.{_≡_, refl, sym}
+use mathlib.Core.Path.{_≡_, refl, sym, _∙_}
 use mathlib.Core.Bool.{Bool, true, false, _&&_, true≢false}
 use mathlib.Core.List.{List, [], _∷_, _++_, map}
-use Prim.Native.Nat.{ℕ, zero, suc, _+_, _-_, _≤_, _<_}
+use Prim.Native.Nat.{ℕ, zero, suc, _-_, _≤_, _<_}
+use native.Mathlib.Decide.{decLt}
 use native.Mathlib.Omega.{arith}
 use borrow.Author.Tests.{le-leb, lt-leb, leb-true, eqb-true}
 use lib.Dec.{leb, eqb}
 use lib.ListN.{length, getD, replicate, List·getD-append, List·getD-map}
 use Rattle.fields.specs.Table.{total}
 use Rattle.fields.specs.Modes.{isMode, widths, widthsOf, countOf, every, ruled}
-use Rattle.fields.proofs.Tables.{total-step, total-le, Standing}
 
 pub mode-low : (mode : ℕ) → mode < 1 → false ≡ isMode mode
 unfolding isMode
@@ -19,11 +19,11 @@ pub mode-is : (mode : ℕ) → 1 ≤ mode → leb mode 3 ≡ isMode mode
 unfolding isMode
 mode-is mode h = rw (le-leb 1 mode h)
 
-and-left : (a b : Bool) → (a && b) ≡ true → a ≡ true
+pub and-left : (a b : Bool) → (a && b) ≡ true → a ≡ true
 and-left true b e = refl
 and-left false b e = e
 
-and-right : (a b : Bool) → (a && b) ≡ true → b ≡ true
+pub and-right : (a b : Bool) → (a && b) ≡ true → b ≡ true
 and-right true b e = e
 and-right false b e = absurd (true≢false (sym e))
 
@@ -34,6 +34,29 @@ mode-from mode h = leb-true 1 mode (and-left (leb 1 mode) (leb mode 3) h)
 pub mode-to : (mode : ℕ) → isMode mode ≡ true → mode ≤ 3
 unfolding isMode
 mode-to mode h = leb-true mode 3 (and-right (leb 1 mode) (leb mode 3) h)
+
+-- a mode that is neither 1 nor 2 is 3, and one that is not 3 either is none
+pub third-mode : (mode : ℕ) → isMode mode ≡ true → (mode ≡ 1 → ⊥) → (mode ≡ 2 → ⊥) → mode ≡ 3
+third-mode mode m a b = omega (arith, mode-from mode m, mode-to mode m)
+
+pub no-other-mode : (mode : ℕ) → (mode ≡ 1 → ⊥) → (mode ≡ 2 → ⊥) → (mode ≡ 3 → ⊥) → isMode mode ≡ false
+no-other-mode mode a b c = go (decLt mode 1)
+  where
+    go : Dec (mode < 1) → isMode mode ≡ false
+    go (yes h) = sym (mode-low mode h)
+    go (no h) = sym (mode-is mode (omega arith)) ∙ lt-leb mode 3 (omega arith)
+
+pub one-is : isMode 1 ≡ true
+unfolding isMode
+one-is = refl
+
+pub two-is : isMode 2 ≡ true
+unfolding isMode
+two-is = refl
+
+pub three-is : isMode 3 ≡ true
+unfolding isMode
+three-is = refl
 
 -- what a test over a whole list says of each element
 every-at : {A : Type 0} (test : A → Bool) (xs : List A) → every test xs ≡ true → (i : ℕ) (d : A) → i < length xs → test (getD xs i d) ≡ true
@@ -95,9 +118,3 @@ unfolding countOf widthsOf widths
 count-le mode h =
     leb-true (length (widthsOf mode)) 11
     (every-at (λ (ws : List ℕ). leb (length ws) 11) widths refl (mode - 1) [] (omega (arith, three, mode-from mode h, mode-to mode h)))
-
--- a field ends within the 54 bits
-pub mode-room : (mode : ℕ) → isMode mode ≡ true → (at i w : ℕ) → Standing (widthsOf mode) at i → i < countOf mode → w ≡ getD (widthsOf mode) i 0 → at + w ≤ 54
-unfolding countOf
-mode-room mode h at i w s l e =
-    omega (arith, s .start, total-step (widthsOf mode) i l, total-le (widthsOf mode) (suc i), mode-total mode h)

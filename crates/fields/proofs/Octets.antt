@@ -7,7 +7,7 @@ use native.Mathlib.Numerals.{add-one}
 use native.Mathlib.Decide.{decLt}
 use native.Mathlib.Omega.{arith}
 use lib.ListN.{length, getD, take, drop, length-append, length-reverse, length-take, length-drop, take-append-drop, List·getD-append}
-use lib.Seq.{take-at, drop-at, getD-append-add, getD-drop, length-take-le, drop-drop}
+use lib.Seq.{take-at, drop-at, getD-append-add, getD-drop, length-take-le}
 use lib.Pow.{pow-mono}
 use Rattle.fields.specs.Bits.{Bits, digits, spelled, bitsOf, octetsOf}
 use Rattle.fields.proofs.Digits.{length-digits, bits-tail, spelled-lt, spelled-digits, digits-spelled, digits-at}
@@ -17,7 +17,7 @@ bits-append [] cs h g i = g i
 bits-append (b ∷ bs) cs h g zero = h 0
 bits-append (b ∷ bs) cs h g (suc i) = bits-append bs cs (bits-tail b bs h) g i
 
-bits-reverse : (bs : List ℕ) → Bits bs → Bits (reverse bs)
+pub bits-reverse : (bs : List ℕ) → Bits bs → Bits (reverse bs)
 bits-reverse [] h = λ i. omega arith
 bits-reverse (b ∷ bs) h = rw reverse-cons (bits-append (reverse bs) (b ∷ []) (bits-reverse bs (bits-tail b bs h)) one)
   where
@@ -25,13 +25,13 @@ bits-reverse (b ∷ bs) h = rw reverse-cons (bits-append (reverse bs) (b ∷ [])
     one zero = h 0
     one (suc i) = omega arith
 
-bits-take : (n : ℕ) (bs : List ℕ) → Bits bs → Bits (take n bs)
+pub bits-take : (n : ℕ) (bs : List ℕ) → Bits bs → Bits (take n bs)
 bits-take zero bs h i = omega arith
 bits-take (suc n) [] h i = omega arith
 bits-take (suc n) (b ∷ bs) h zero = h 0
 bits-take (suc n) (b ∷ bs) h (suc i) = bits-take n bs (bits-tail b bs h) i
 
-bits-drop : (n : ℕ) (bs : List ℕ) → Bits bs → Bits (drop n bs)
+pub bits-drop : (n : ℕ) (bs : List ℕ) → Bits bs → Bits (drop n bs)
 bits-drop n bs h i = rw getD-drop (h (n + i))
 
 -- eight bits stand for an octet
@@ -91,17 +91,8 @@ unfolding octetsOf
 length-octets zero bs = refl
 length-octets (suc n) bs = ap suc (length-octets n (drop 8 bs))
 
--- one octet, from its bits
-pub octet-is : (n : ℕ) (bs : List ℕ) (i : ℕ) → i < n → getD (octetsOf n bs) i 0 ≡ spelled (reverse (take 8 (drop (8 * i) bs)))
-unfolding octetsOf
-octet-is zero bs i h = absurd (omega arith)
-octet-is (suc n) bs zero h = refl
-octet-is (suc n) bs (suc i) h =
-    let e : 8 + 8 * i ≡ 8 * suc i = omega arith in
-    octet-is n (drop 8 bs) i (omega arith) ∙ ap (λ (l : List ℕ). spelled (reverse (take 8 l))) (drop-drop (8 * i) 8 bs ∙ ap (λ (k : ℕ). drop k bs) e)
-
 -- eight bits make less than 256
-pub octet-small : (bs : List ℕ) (at : ℕ) → Bits bs → spelled (reverse (take 8 (drop at bs))) < 256
+octet-small : (bs : List ℕ) (at : ℕ) → Bits bs → spelled (reverse (take 8 (drop at bs))) < 256
 octet-small bs at h =
     let eight : List ℕ = take 8 (drop at bs) in
     let l : length (reverse eight) ≤ 8 = omega (arith, length-reverse eight, length-take 8 (drop at bs)) in

@@ -5,10 +5,10 @@ use Prim.Native.Nat.{ℕ, zero, suc, _+_, _≤_, _<_}
 use native.Mathlib.Decide.{decLe, ℕ-discrete}
 use native.Mathlib.Omega.{arith}
 use borrow.Author.Tests.{eq-eqb, ne-eqb}
-use lib.ListN.{length, getD, set, length-set}
-use lib.Seq.{getD-set-same, getD-set-other}
+use lib.ListN.{length, getD, set, drop, length-set, length-append}
+use lib.Seq.{getD-set-same, getD-set-other, set-at, append-snoc}
 use Rattle.fields.specs.Bits.{Bits}
-use Rattle.fields.specs.Table.{placed, times}
+use Rattle.fields.specs.Table.{placed, times, run}
 use Rattle.fields.proofs.Digits.{bits-tail}
 
 -- how often a bit is named, place by place
@@ -44,12 +44,17 @@ times-less p q qs = go (first p q qs)
     go (here e t) = omega arith
     go (there n t) = omega arith
 
-pub placed-append : (ps qs bs cs l : List ℕ) → length ps ≡ length bs → placed (ps ++ qs) (bs ++ cs) l ≡ placed qs cs (placed ps bs l)
-unfolding placed
-placed-append [] qs [] cs l e = refl
-placed-append [] qs (b ∷ bs) cs l e = absurd (omega arith)
-placed-append (p ∷ ps) qs [] cs l e = absurd (omega arith)
-placed-append (p ∷ ps) qs (b ∷ bs) cs l e = placed-append ps qs bs cs (set l p b) (omega arith)
+-- bits that are put at neighbouring places take the place of those there
+pub placed-run : (ps bs l : List ℕ) → length bs ≤ length l → placed (run (length ps) (length bs)) bs (ps ++ l) ≡ ps ++ (bs ++ drop (length bs) l)
+unfolding placed run
+placed-run ps [] l h = refl
+placed-run ps (b ∷ bs) [] h = absurd (omega arith)
+placed-run ps (b ∷ bs) (x ∷ l) h =
+    let s : set (ps ++ (x ∷ l)) (length ps) b ≡ (ps ++ (b ∷ [])) ++ l = set-at ps x l b (length ps) refl ∙ sym (append-snoc ps b l) in
+    let n : suc (length ps) ≡ length (ps ++ (b ∷ [])) = simp length-append (omega arith) in
+    ap (λ (m : List ℕ). placed (run (suc (length ps)) (length bs)) bs m) s
+    ∙ ap (λ (k : ℕ). placed (run k (length bs)) bs ((ps ++ (b ∷ [])) ++ l)) n
+    ∙ placed-run (ps ++ (b ∷ [])) bs l (omega arith) ∙ append-snoc ps b (bs ++ drop (length bs) l)
 
 pub length-placed : (ps bs l : List ℕ) → length (placed ps bs l) ≡ length l
 unfolding placed

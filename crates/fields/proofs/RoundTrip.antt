@@ -32,7 +32,7 @@ module _ (table : Table) (fields : List ℕ) {bits : List ℕ} (e : bits ≡ pla
   pub packed-bits : Bits bits
   packed-bits = rw e (bits-placed (flatten table) (fieldBits table fields) zeros (bits-fieldBits table fields) bits-zeros)
 
-  pub packed-long : length bits ≡ 56
+  packed-long : length bits ≡ 56
   packed-long = ap length e ∙ length-placed (flatten table) (fieldBits table fields) zeros
 
 -- an octet whose two highest bits are 0

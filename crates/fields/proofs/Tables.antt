@@ -3,8 +3,7 @@ use mathlib.Core.Path.{_≡_, refl, sym, ap, _∙_}
 use mathlib.Core.Bool.{cond}
 use mathlib.Core.List.{List, [], _∷_, _++_, map, flatten, map-append}
 use Prim.Native.Nat.{ℕ, zero, suc, _+_, _^_, _≤_, _<_}
-use native.Mathlib.Nat.{add-zero, add-assoc, mod-eq-of-lt}
-use native.Mathlib.Numerals.{add-one}
+use native.Mathlib.Nat.{add-zero, zero-add, add-assoc, mod-eq-of-lt}
 use native.Mathlib.Decide.{decLt, ℕ-discrete}
 use native.Mathlib.Omega.{arith}
 use borrow.Author.Tests.{lt-ltb, le-ltb}
@@ -78,6 +77,20 @@ unfolding consecutive
 length-consecutive at [] = refl
 length-consecutive at (w ∷ ws) = ap suc (length-consecutive (at + w) ws)
 
+-- all its bits are neighbours
+run-append : (at n m : ℕ) → run at n ++ run (at + n) m ≡ run at (n + m)
+unfolding run
+run-append at zero m = rw (add-zero at, zero-add m)
+run-append at (suc n) m =
+    let e : at + suc n ≡ suc at + n = omega arith in
+    let f : suc n + m ≡ suc (n + m) = omega arith in
+    rw (e, f, run-append (suc at) n m)
+
+pub flatten-consecutive : (at : ℕ) (ws : List ℕ) → flatten (consecutive at ws) ≡ run at (total ws)
+unfolding consecutive flatten total run
+flatten-consecutive at [] = refl
+flatten-consecutive at (w ∷ ws) = rw (flatten-consecutive (at + w) ws) (run-append at w (total ws))
+
 -- one field of a table of neighbouring bits: it starts where those in front of it end
 pub consecutive-at : (at : ℕ) (ws : List ℕ) (i : ℕ) → i < length ws → getD (consecutive at ws) i [] ≡ run (at + total (take i ws)) (getD ws i 0)
 unfolding consecutive total
@@ -144,26 +157,14 @@ consecutive-once ws e = record {
       omega (arith, below-ge p 0 (omega arith), ap (below p) q);
 }
 
--- where a walk over the fields stands: at the field i, whose bits start at at
-pub record Standing (ws : List ℕ) (at i : ℕ) : Type 0 where
-  pub upto : i ≤ length ws
-  pub start : at ≡ total (take i ws)
-
-pub standing-start : (ws : List ℕ) → Standing ws 0 0
-unfolding total
-standing-start ws = record { upto = omega arith; start = refl }
-
-pub standing-step : (ws : List ℕ) (at i w : ℕ) → Standing ws at i → i < length ws → w ≡ getD ws i 0 → Standing ws (at + w) (i + 1)
-standing-step ws at i w h l e = record { upto = omega arith; start = rw (add-one i) (omega (arith, h .start, total-step ws i l)) }
-
--- the field there, of all that are unpacked
-pub field-is : (ws body : List ℕ) (at i w v : ℕ) → Standing ws at i → i < length ws → w ≡ getD ws i 0 → v ≡ fieldOf body (run at w)
-    → v ≡ getD (fieldsOf (consecutive 0 ws) body) i 0
+-- one field, of all that are unpacked
+pub field-is : (ws body : List ℕ) (i : ℕ) → i < length ws
+    → getD (fieldsOf (consecutive 0 ws) body) i 0 ≡ fieldOf body (run (total (take i ws)) (getD ws i 0))
 unfolding fieldsOf fieldOf spelled
-field-is ws body at i w v h l e f =
-    let s : 0 + total (take i ws) ≡ at = omega (arith, h .start) in
-    f ∙ ap (λ (ps : List ℕ). fieldOf body ps) (ap (run at) e ∙ ap (λ (n : ℕ). run n (getD ws i 0)) (sym s) ∙ sym (consecutive-at 0 ws i l))
-    ∙ sym (List·getD-map (fieldOf body) (consecutive 0 ws) i [])
+field-is ws body i l =
+    let s : 0 + total (take i ws) ≡ total (take i ws) = omega arith in
+    List·getD-map (fieldOf body) (consecutive 0 ws) i []
+    ∙ ap (λ (ps : List ℕ). fieldOf body ps) (consecutive-at 0 ws i l ∙ ap (λ (n : ℕ). run n (getD ws i 0)) s)
 
 pub length-fields : (ws body : List ℕ) → length (fieldsOf (consecutive 0 ws) body) ≡ length ws
 unfolding fieldsOf

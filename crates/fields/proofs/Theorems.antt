@@ -1,7 +1,7 @@
 -- What packing and unpacking say of each other, in each mode, and document 01's examples.
 use mathlib.Core.Path.{_≡_, refl, sym, _∙_}
 use mathlib.Core.Bool.{Bool, true, false, cond, not}
-use mathlib.Core.List.{List, [], map, flatten}
+use mathlib.Core.List.{List, map, flatten}
 use Prim.Native.Nat.{ℕ, suc, _≤_, _<_}
 use native.Mathlib.Omega.{arith}
 use borrow.Author.Tests.{le-ltb, eq-eqb, not-false, eqb-true, ltb-false}

@@ -3,3 +3,4 @@ pub mod Table
 pub mod Modes
 pub mod Answers
 pub mod Examples
+pub mod Words

@@ -1,14 +1,13 @@
 // The fields of a 600 bps frame's body, modes 1 to 3: one table of widths, one unpacker, one packer.
 ghost use mathlib.Core.Path.{_≡_};
 ghost use mathlib.Core.Bool.{true};
-ghost use mathlib.Core.List.{_++_, reverse, flatten};
-ghost use Prim.Native.Nat.{_+_, _*_, _^_, _≤_, _<_};
+ghost use mathlib.Core.List.{List, _++_, map};
+ghost use Prim.Native.Nat.{ℕ, _+_, _*_, _/_, _%_, _^_, _≤_, _<_};
 ghost use lib.Dec.{ltb};
-ghost use lib.ListN.{length, getD, take, drop};
-ghost use Rattle.fields.specs.Bits.{Bits, digits, spelled, bitsOf, octetsOf};
-ghost use Rattle.fields.specs.Table.{fieldOf, fieldsOf, fieldBits, placed, run};
-ghost use Rattle.fields.specs.Modes.{isMode, widthsOf, countOf, tableOf, firstLarge};
+ghost use lib.ListN.{length, getD, drop};
+ghost use Rattle.fields.specs.Modes.{isMode, widthsOf, countOf};
 ghost use Rattle.fields.specs.Answers.{Unpacks, Packs};
+ghost use Rattle.fields.specs.Words.{wordOf, octets, turn, swap, Spells, Gathers};
 use refusal::FOREIGN_BITS;
 use refusal::LARGE_FIELD;
 use refusal::Refusal;
@@ -32,7 +31,7 @@ pub const VOICING: usize = 0;
 // The index of Pitch among the fields of modes 2 and 3.
 pub const PITCH: usize = 1;
 
-// The widths of the fields of modes 1 to 3 in bits, from B_01 on, each row in the order of the fields. No field has width 0: it fills a row up.
+// The widths of the fields of modes 1 to 3 in bits, from B_01 on, a row for each mode. No field has width 0: it fills a row up.
 const WIDTHS: [[u8; MOST_FIELDS]; 3] = [
     // Voicing; LSF1,4; LSF1,3; LSF1,2; LSF1,1; LSF2,4; LSF2,3; LSF2,2; LSF2,1; GAIN2; GAIN1
     [5, 4, 4, 4, 6, 4, 4, 4, 6, 6, 7],
@@ -76,49 +75,89 @@ fn count_of(mode: u8) -> usize
 }
 
 // The width of a mode's field.
-fn width_of(mode: u8, i: usize) -> usize
+fn width_of(mode: u8, i: usize) -> u64
     requires { ⌜ (isMode mode ≡ true) × (i < countOf mode) ⌝ }
     ensures { λ r. ⌜ r ≡ getD (widthsOf mode) i 0 ⌝ }
 {
     let m = (mode - 1) as usize;
-    WIDTHS[m][i] as usize
+    WIDTHS[m][i] as u64
 }
 
-// One bit of a body; bit 0 is B_01.
-fn bit_at(body: &[u8], at: usize) -> u16
-    requires { ⌜ at < 8 * length (now body) ⌝ }
-    ensures { λ r. ⌜ r ≡ getD (bitsOf (now (body .entry))) at 0 ⌝ }
+// The octets of a body as one number, the first the highest.
+fn word_of(body: &[u8]) -> u64
+    requires { ⌜ length (now body) ≡ 7 ⌝ }
+    ensures { λ r. ⌜ r ≡ wordOf (now (body .entry)) ⌝ }
 {
-    ((body[at / 8] >> (at % 8)) % 2) as u16
-}
-
-// One field: the bits from an index on, highest first. At most eight, so that they lie in two neighbouring octets.
-fn field_at(body: &[u8], at: usize, width: usize) -> u16
-    requires { ⌜ (length (now body) ≡ 7) × (at + width ≤ 54) × (width ≤ 8) ⌝ }
-    ensures { λ r. ⌜ r ≡ fieldOf (now (body .entry)) (run at width) ⌝ }
-{
-    let mut value: u16 = 0;
-    let mut left = width;
-    while 0 < left {
-        value = value * 2 + bit_at(body, at + (width - left));
-        left -= 1;
+    let mut word: u64 = 0;
+    let mut i = 0;
+    while i < BODY_OCTETS {
+        word = word * 256 + body[i] as u64;
+        i += 1;
     }
-    value
+    word
 }
 
-// Fills the first places with the fields of a body.
-fn take_fields(mode: u8, body: &[u8], fields: &mut [u16], count: usize)
-    requires { ⌜ (isMode mode ≡ true) × (length (now body) ≡ 7) × (count ≡ countOf mode) × (count ≤ length (now fields)) ⌝ }
-    ensures { λ _. ⌜ now (fields .exit) ≡ fieldsOf (tableOf mode) (now (body .entry)) ++ drop count (now (fields .entry)) ⌝ }
+// Swaps neighbouring groups of k bits: those of the first mask go down, those of the second up.
+fn swapped(word: u64, down: u64, up: u64, k: u64) -> u64
+    requires { ⌜ (k ≤ 4) × (down < 2 ^ 56) × (up < 2 ^ 56) ⌝ }
+    ensures { λ r. ⌜ r ≡ swap down up k word ⌝ }
 {
-    let mut at = 0;
+    ((word & down) >> k) + ((word & up) << k)
+}
+
+// The word with the bits of each octet in reverse order: bit 0 of an octet, B_01, is the highest bit of a field.
+fn turned(word: u64) -> u64
+    requires { ⌜ word < 2 ^ 56 ⌝ }
+    ensures { λ r. ⌜ r ≡ wordOf (map turn (octets 7 word)) ⌝ }
+{
+    let ones = swapped(word, 0xaaaaaaaaaaaaaa, 0x55555555555555, 1);
+    let twos = swapped(ones, 0xcccccccccccccc, 0x33333333333333, 2);
+    swapped(twos, 0xf0f0f0f0f0f0f0, 0x0f0f0f0f0f0f0f, 4)
+}
+
+// One field of a word: so many bits from one on up.
+fn field_at(word: u64, from: u64, width: u64) -> u16
+    requires { ⌜ (from < 64) × (width ≤ 8) ⌝ }
+    ensures { λ r. ⌜ r ≡ word / 2 ^ from % 2 ^ width ⌝ }
+{
+    ((word >> from) % (1 << width)) as u16
+}
+
+// Fills the first places with the fields of a word.
+fn take_fields(mode: u8, word: u64, fields: &mut [u16]) -> Unpacked
+    requires { ⌜ isMode mode ≡ true ⌝ }
+    ensures { λ r. ⌜ ((body : List ℕ) → Spells body word → Unpacks mode body (now (fields .entry)) (now (fields .exit)) r) ⌝ }
+{
+    let count = count_of(mode);
+    if fields.len() < count {
+        return Unpacked::Refused(Refusal {
+            number: SHORT_LIST,
+            place: count,
+        });
+    }
+    let mut left: u64 = 56;
     let mut i = 0;
     while i < count {
         let width = width_of(mode, i);
-        fields[i] = field_at(body, at, width);
-        at += width;
+        left -= width;
+        fields[i] = field_at(word, left, width);
         i += 1;
     }
+    Unpacked::Fields(count)
+}
+
+// The same, with a call for each mode, so that its widths are constants to the compiler.
+fn take(mode: u8, word: u64, fields: &mut [u16]) -> Unpacked
+    requires { ⌜ isMode mode ≡ true ⌝ }
+    ensures { λ r. ⌜ ((body : List ℕ) → Spells body word → Unpacks mode body (now (fields .entry)) (now (fields .exit)) r) ⌝ }
+{
+    if mode == 1 {
+        return take_fields(1, word, fields);
+    }
+    if mode == 2 {
+        return take_fields(2, word, fields);
+    }
+    take_fields(3, word, fields)
 }
 
 // Unpacks the fields of a body of seven octets, in the order of the mode's widths.
@@ -143,91 +182,100 @@ pub fn unpack(mode: u8, body: &[u8], fields: &mut [u16]) -> Unpacked
             place: 6,
         });
     }
-    let count = count_of(mode);
-    if fields.len() < count {
-        return Unpacked::Refused(Refusal {
-            number: SHORT_LIST,
-            place: count,
-        });
+    let answer = take(mode, turned(word_of(body)), fields);
+    match answer {
+        Unpacked::Fields(count) => Unpacked::Fields(count),
+        Unpacked::Refused(refusal) => Unpacked::Refused(refusal),
     }
-    take_fields(mode, body, fields, count);
-    Unpacked::Fields(count)
+}
+
+// What gathering fields finds: number and place of a refusal, 0 if there is none; then the word has the bits of the fields.
+struct Gathered {
+    number: u8,
+    place: usize,
+    word: u64,
 }
 
 // A field has no bit above its width.
-fn fits(value: u16, width: usize) -> bool
+fn fits(value: u16, width: u64) -> bool
     requires { ⌜ width < 16 ⌝ }
     ensures { λ r. ⌜ r ≡ ltb value (2 ^ width) ⌝ }
 {
     value >> width == 0
 }
 
-// The index of the first field that is too large for its width, or the number of fields.
-fn first_large(mode: u8, fields: &[u16], count: usize) -> usize
-    requires { ⌜ (isMode mode ≡ true) × (count ≡ countOf mode) × (length (now fields) ≡ count) ⌝ }
-    ensures { λ r. ⌜ r ≡ firstLarge (widthsOf mode) (now (fields .entry)) ⌝ }
+// A word with the bits of one field more.
+fn with_field(word: u64, width: u64, value: u16) -> u64
+    requires { ⌜ (word < 2 ^ 54) × (width ≤ 8) ⌝ }
+    ensures { λ r. ⌜ r ≡ word * 2 ^ width + value ⌝ }
 {
-    let mut i = 0;
-    while i < count {
-        if !fits(fields[i], width_of(mode, i)) {
-            return i;
-        }
-        i += 1;
-    }
-    i
+    (word << width) + value as u64
 }
 
-// Puts the bits of one field, highest first, from an index on.
-fn put_bits(bits: &mut [u8], at: usize, width: usize, value: u16)
-    requires { ⌜ (at + width ≤ length (now bits)) × (width < 16) ⌝ }
-    ensures { λ _. ⌜ now (bits .exit) ≡ placed (run at width) (digits width value) (now (bits .entry)) ⌝ }
+// Gathers the bits of a mode's fields.
+fn gather_fields(mode: u8, fields: &[u16]) -> Gathered
+    requires { ⌜ isMode mode ≡ true ⌝ }
+    ensures { λ r. ⌜ Gathers mode (now (fields .entry)) (r .number) (r .place) (r .word) ⌝ }
 {
-    let mut from = at;
-    let mut left = width;
-    while 0 < left {
-        left -= 1;
-        bits[from] = ((value >> left) % 2) as u8;
-        from += 1;
+    let count = count_of(mode);
+    if fields.len() != count {
+        return Gathered {
+            number: WRONG_LENGTH,
+            place: count,
+            word: 0,
+        };
     }
-}
-
-// Puts the bits of all the fields.
-fn put_fields(mode: u8, fields: &[u16], count: usize, bits: &mut [u8])
-    requires { ⌜ (isMode mode ≡ true) × (count ≡ countOf mode) × (length (now fields) ≡ count) × (length (now bits) ≡ 56) ⌝ }
-    ensures { λ _. ⌜ now (bits .exit) ≡ placed (flatten (tableOf mode)) (fieldBits (tableOf mode) (now (fields .entry))) (now (bits .entry)) ⌝ }
-{
-    let mut at = 0;
+    let mut word: u64 = 0;
     let mut i = 0;
     while i < count {
         let width = width_of(mode, i);
-        put_bits(bits, at, width, fields[i]);
-        at += width;
+        if !fits(fields[i], width) {
+            return Gathered {
+                number: LARGE_FIELD,
+                place: i,
+                word: 0,
+            };
+        }
+        word = with_field(word, width, fields[i]);
         i += 1;
     }
-}
-
-// The octet of eight bits from an index on, lowest first.
-fn octet_at(bits: &[u8], at: usize) -> u8
-    requires { ⌜ (at + 8 ≤ length (now bits)) × Bits (now bits) ⌝ }
-    ensures { λ r. ⌜ r ≡ spelled (reverse (take 8 (drop at (now (bits .entry))))) ⌝ }
-{
-    let mut value: u8 = 0;
-    let mut left = 8;
-    while 0 < left {
-        value = value * 2 + bits[at + (left - 1)];
-        left -= 1;
+    Gathered {
+        number: 0,
+        place: 0,
+        word,
     }
-    value
 }
 
-// Makes seven octets of 56 bits.
-fn put_octets(bits: &[u8], out: &mut [u8])
-    requires { ⌜ (length (now bits) ≡ 56) × Bits (now bits) × (7 ≤ length (now out)) ⌝ }
-    ensures { λ _. ⌜ now (out .exit) ≡ octetsOf 7 (now (bits .entry)) ++ drop 7 (now (out .entry)) ⌝ }
+// The same, with a call for each mode, so that its widths are constants to the compiler.
+fn gather(mode: u8, fields: &[u16]) -> Gathered
+    ensures { λ r. ⌜ Gathers mode (now (fields .entry)) (r .number) (r .place) (r .word) ⌝ }
 {
+    if mode == 1 {
+        return gather_fields(1, fields);
+    }
+    if mode == 2 {
+        return gather_fields(2, fields);
+    }
+    if mode == 3 {
+        return gather_fields(3, fields);
+    }
+    Gathered {
+        number: UNKNOWN_MODE,
+        place: 0,
+        word: 0,
+    }
+}
+
+// Puts the seven octets of a word, the highest first.
+fn put_octets(word: u64, out: &mut [u8])
+    requires { ⌜ 7 ≤ length (now out) ⌝ }
+    ensures { λ _. ⌜ now (out .exit) ≡ octets 7 word ++ drop 7 (now (out .entry)) ⌝ }
+{
+    let mut left: u64 = 56;
     let mut i = 0;
     while i < BODY_OCTETS {
-        out[i] = octet_at(bits, 8 * i);
+        left -= 8;
+        out[i] = ((word >> left) % 256) as u8;
         i += 1;
     }
 }
@@ -236,24 +284,11 @@ fn put_octets(bits: &[u8], out: &mut [u8])
 pub fn pack(mode: u8, fields: &[u16], out: &mut [u8]) -> Packed
     ensures { λ r. ⌜ Packs mode (now (fields .entry)) (now (out .entry)) (now (out .exit)) r ⌝ }
 {
-    if !is_mode(mode) {
+    let gathered = gather(mode, fields);
+    if gathered.number != 0 {
         return Packed::Refused(Refusal {
-            number: UNKNOWN_MODE,
-            place: 0,
-        });
-    }
-    let count = count_of(mode);
-    if fields.len() != count {
-        return Packed::Refused(Refusal {
-            number: WRONG_LENGTH,
-            place: count,
-        });
-    }
-    let large = first_large(mode, fields, count);
-    if large < count {
-        return Packed::Refused(Refusal {
-            number: LARGE_FIELD,
-            place: large,
+            number: gathered.number,
+            place: gathered.place,
         });
     }
     if out.len() < BODY_OCTETS {
@@ -262,8 +297,6 @@ pub fn pack(mode: u8, fields: &[u16], out: &mut [u8]) -> Packed
             place: BODY_OCTETS,
         });
     }
-    let mut bits = [0u8; 56];
-    put_fields(mode, fields, count, &mut bits);
-    put_octets(&bits, out);
+    put_octets(turned(gathered.word << 2), out);
     Packed::Octets(BODY_OCTETS)
 }

@@ -1,43 +1,47 @@
 -- `fields::take_fields` meets its contract: the fields that were passed are filled.
 use Prim.Native.Nat.{_-_}
 use native.Mathlib.Omega.{arith}
-use denote.Ref.{now}
 use Rattle.fields.specs.Modes.{widthsOf, countOf, tableOf}
-use Rattle.fields.specs.Table.{fieldsOf, consecutive}
-use Rattle.fields.proofs.Filled.{Filled, filled-start, filled-step, filled-end}
-use Rattle.fields.proofs.Modes.{mode-width, mode-room}
-use Rattle.fields.proofs.Tables.{Standing, standing-start, standing-step, field-is, length-fields}
+use Rattle.fields.proofs.Answers.{unpack-9, unpack-all}
+use Rattle.fields.proofs.Modes.{mode-total, mode-width}
+use Rattle.fields.proofs.Taking.{Taking, taking-start, taking-room, taking-step, taking-end}
 use Rattle.fields.proofs.take_fields.Statement.{statement}
 use Rattle.fields.proofs.take_fields.Tie as tie
 
 abbrev Inv-loop : tie.InvT-loop
-Inv-loop mode body fields₀ count at₀ i₀ fields at i =
-    Filled (fieldsOf (consecutive 0 (widthsOf mode)) body) fields₀ fields i × Standing (widthsOf mode) at i
+Inv-loop mode word fields₀ count left₀ i₀ fields left i = Taking (widthsOf mode) word fields₀ fields left i
 
 abbrev μ-loop : tie.MeasureT-loop
-μ-loop mode body fields₀ count at₀ i₀ fields at i = count - i
+μ-loop mode word fields₀ count left₀ i₀ fields left i = count - i
+
+count-of-requires : tie.Need-count-of-requires Inv-loop μ-loop
+count-of-requires c κs = c .before .pre
+
+returns : tie.Need-returns Inv-loop μ-loop
+returns c body s = unpack-9 _ _ _ (c .before .before .before .pre) (s .long) (s .end) _ (c .before .count-of .ensures) (c .if1 .taken)
 
 loop-holds : tie.Need-loop-holds Inv-loop μ-loop
-loop-holds c = (filled-start _ _, standing-start _)
+loop-holds c = taking-start _ _ _
 
 width-of-requires : tie.Need-width-of-requires Inv-loop μ-loop
-width-of-requires c κs = (c .before .before .before .before .pre .0, omega arith)
+width-of-requires c κs = (c .before .before .before .before .before .pre, omega arith)
+
+sub-left : tie.Need-sub-left Inv-loop μ-loop
+unfolding countOf
+sub-left c =
+    taking-room _ _ _ _ _ _ _ (c .before .before .loop .inv) (omega arith) (c .width-of .ensures) (mode-total _ (c .before .before .before .before .before .before .pre))
 
 field-at-requires : tie.Need-field-at-requires Inv-loop μ-loop
 field-at-requires c κs = (
-  c .before .before .before .before .before .pre .1,
-  mode-room _ (c .before .before .before .before .before .pre .0) _ _ _ (c .before .before .loop .inv .1) (omega arith) (c .width-of .ensures),
-  mode-width _ (c .before .before .before .before .before .pre .0) (c .before .before .loop .i) _ (omega arith) (c .width-of .ensures),
+  omega (arith, c .before .before .loop .inv .room),
+  mode-width _ (c .before .before .before .before .before .before .pre) _ _ (omega arith) (c .width-of .ensures),
 )
 
 mul-fields : tie.Need-mul-fields Inv-loop μ-loop
-mul-fields c = omega arith
+mul-fields c = omega (arith, c .before .before .before .loop .inv .long)
 
 slice-write-fields : tie.Need-slice-write-fields Inv-loop μ-loop
-slice-write-fields c = omega arith
-
-add-at : tie.Need-add-at Inv-loop μ-loop
-add-at c = omega (arith, mode-room _ (c .before .before .before .before .before .before .pre .0) _ _ _ (c .before .before .before .loop .inv .1) (omega arith) (c .before .width-of .ensures))
+slice-write-fields c = omega (arith, c .before .before .before .loop .inv .long)
 
 add-i : tie.Need-add-i Inv-loop μ-loop
 add-i c = omega arith
@@ -47,22 +51,18 @@ loop-less c = omega arith
 
 loop-again : tie.Need-loop-again Inv-loop μ-loop
 unfolding countOf
-loop-again c = (
-  filled-step _ _ _ _ _ (c .before .before .before .loop .inv .0)
-      (omega (arith, length-fields (widthsOf (c .before .before .before .before .before .before .args .mode)) (now (c .before .before .before .before .before .before .args .body))))
-      (omega arith)
-      (field-is _ _ _ _ _ _ (c .before .before .before .loop .inv .1) (omega arith) (c .before .width-of .ensures) (c .field-at .ensures)),
-  standing-step _ _ _ _ (c .before .before .before .loop .inv .1) (omega arith) (c .before .width-of .ensures),
-)
+loop-again c =
+    taking-step _ _ _ _ _ _ _ (c .before .before .before .loop .inv) (omega arith) (c .before .width-of .ensures) (sub-left (c .before)) (omega arith)
+    (c .field-at .ensures)
 
 same-length : tie.Need-same-length Inv-loop μ-loop
-same-length c = c .before .loop .inv .0 .long
+same-length c = c .before .loop .inv .long
 
-returns : tie.Need-returns Inv-loop μ-loop
+returns-2 : tie.Need-returns-2 Inv-loop μ-loop
 unfolding countOf tableOf
-returns c =
-    filled-end _ _ _ _ (c .before .before .before .before .args .count) (c .before .loop .inv .0) (omega (arith, c .before .loop .inv .1 .upto))
-    (omega (arith, length-fields (widthsOf (c .before .before .before .before .args .mode)) (now (c .before .before .before .before .args .body))))
+returns-2 c body s =
+    unpack-all _ _ _ (c .before .before .before .before .before .pre) (s .long) (s .end) _ (c .before .before .before .count-of .ensures) (c .before .before .if1 .left)
+    (taking-end _ _ _ _ _ _ _ (c .before .loop .inv) (omega (arith, c .before .loop .inv .upto)) (c .before .before .before .count-of .ensures) body s)
 
 pub take-fields-spec : {M : Type 1} → statement M
 take-fields-spec =
@@ -70,14 +70,16 @@ take-fields-spec =
     (tie.spec
     Inv-loop
     μ-loop
+    count-of-requires
+    returns
     loop-holds
     width-of-requires
+    sub-left
     field-at-requires
     mul-fields
     slice-write-fields
-    add-at
     add-i
     loop-less
     loop-again
     same-length
-    returns)
+    returns-2)

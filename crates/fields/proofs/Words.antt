@@ -1,0 +1,164 @@
+-- Laws of words: a number and its octets, and the bits that an octet's turning puts in order.
+use mathlib.Core.Path.{_≡_, refl, sym, ap, _∙_}
+use mathlib.Core.List.{List, [], _∷_, _++_, map, reverse}
+use Prim.Native.Nat.{ℕ, zero, suc, _+_, _-_, _*_, _/_, _%_, _^_, _≤_, _<_}
+use native.Mathlib.Nat.{mod-one, mod-eq-of-lt, mul-assoc, add-mul, mul-add-div-right, mul-add-mod-self-right, lt-of-lt-of-le}
+use native.Mathlib.Numerals.{add-one}
+use native.Mathlib.Omega.{arith}
+use lib.ListN.{length, getD, take, drop, length-append, length-drop, length-map, length-reverse, take-append-drop}
+use lib.Arith.{digits-lt}
+use lib.Pow.{pow-pos, pow-mono, pow-add, mod-pow-add, high}
+use lib.Seq.{take-suc, take-all, length-take-le}
+use Rattle.fields.specs.Bits.{Bits, digits, spelled, bitsOf, octetsOf}
+use Rattle.fields.specs.Words.{wordOf, octets, turn}
+use Rattle.fields.proofs.Digits.{length-digits, bits-digits, spelled-lt, digits-spelled}
+use Rattle.fields.proofs.Octets.{bits-take, bits-drop, bits-reverse, length-bits}
+
+-- each element is an octet
+abbrev pub Octets : List ℕ → Type 0
+Octets xs = (i : ℕ) → getD xs i 0 < 256
+
+-- one octet more
+octet-more : (n : ℕ) → 2 ^ (8 * suc n) ≡ 256 * 2 ^ (8 * n)
+octet-more n = let e : 8 * suc n ≡ 8 + 8 * n = omega arith in ap (λ (k : ℕ). 2 ^ k) e ∙ pow-add 2 8 (8 * n)
+
+pub word-lt : (xs : List ℕ) → Octets xs → wordOf xs < 2 ^ (8 * length xs)
+unfolding wordOf
+word-lt [] h = omega arith
+word-lt (x ∷ xs) h = rw (octet-more (length xs)) (digits-lt (h 0) (word-lt xs (λ i. h (suc i))))
+
+pub body-lt : (body : List ℕ) → length body ≡ 7 → Octets body → {word : ℕ} → word ≡ wordOf body → word < 2 ^ 56
+body-lt body l h e = rw e (rw l at (word-lt body h))
+
+-- octets above the lowest n make no difference to them
+octets-above : (n k a v : ℕ) → n ≤ k → octets n (a * 2 ^ (8 * k) + v) ≡ octets n v
+unfolding octets
+octets-above zero k a v h = refl
+octets-above (suc n) k a v h =
+    let j : ℕ = 8 * (k - suc n) in
+    let e : j + 8 + 8 * n ≡ 8 * k = omega arith in
+    let q : a * 2 ^ (8 * k) ≡ a * 2 ^ j * 256 * 2 ^ (8 * n) = ap (λ (m : ℕ). a * 2 ^ m) (sym e) ∙ simp (pow-add, mul-assoc) in
+    let d : (a * 2 ^ (8 * k) + v) / 2 ^ (8 * n) ≡ a * 2 ^ j * 256 + v / 2 ^ (8 * n) =
+    rw q (mul-add-div-right (pow-pos (8 * n)) (a * 2 ^ j * 256) v) in
+    let m : (a * 2 ^ j * 256 + v / 2 ^ (8 * n)) % 256 ≡ v / 2 ^ (8 * n) % 256 = mul-add-mod-self-right (a * 2 ^ j) 256 (v / 2 ^ (8 * n)) in
+    rw (d, m, octets-above n k a v (omega arith))
+
+-- octets are those of the word that they make
+pub octets-word : (xs : List ℕ) → Octets xs → octets (length xs) (wordOf xs) ≡ xs
+unfolding octets wordOf
+octets-word [] h = refl
+octets-word (x ∷ xs) h =
+    let n : ℕ = length xs in
+    let a : (x * 2 ^ (8 * n) + wordOf xs) / 2 ^ (8 * n) ≡ x = high x (8 * n) (word-lt xs (λ i. h (suc i))) in
+    let m : x % 256 ≡ x = mod-eq-of-lt (h 0) in
+    rw (a, m, octets-above n n x (wordOf xs) (omega arith), octets-word xs (λ i. h (suc i)))
+
+pub length-octets-of : (n v : ℕ) → length (octets n v) ≡ n
+unfolding octets
+length-octets-of zero v = refl
+length-octets-of (suc n) v = ap suc (length-octets-of n v)
+
+pub octets-small : (n v : ℕ) → Octets (octets n v)
+unfolding octets
+octets-small zero v i = omega arith
+octets-small (suc n) v zero = omega arith
+octets-small (suc n) v (suc i) = octets-small n v i
+
+-- a word is the one that its octets make
+pub word-octets : (n v : ℕ) → wordOf (octets n v) ≡ v % 2 ^ (8 * n)
+unfolding octets wordOf
+word-octets zero v = sym (mod-one v)
+word-octets (suc n) v =
+    let e : 8 * suc n ≡ 8 + 8 * n = omega arith in
+    rw (length-octets-of n v, word-octets n v, e) (sym (mod-pow-add v 8 (8 * n)))
+
+-- one octet of a word
+pub octets-at : (n v i left : ℕ) → i < n → left + 8 * suc i ≡ 8 * n → getD (octets n v) i 0 ≡ v / 2 ^ left % 256
+unfolding octets
+octets-at zero v i left h e = absurd (omega arith)
+octets-at (suc n) v zero left h e = let q : 8 * n ≡ left = omega arith in ap (λ (k : ℕ). v / 2 ^ k % 256) q
+octets-at (suc n) v (suc i) left h e = octets-at n v i left (omega arith) (omega arith)
+
+-- one octet more, behind the others
+word-snoc : (xs : List ℕ) (x : ℕ) → wordOf (xs ++ (x ∷ [])) ≡ wordOf xs * 256 + x
+unfolding wordOf
+word-snoc [] x = omega arith
+word-snoc (y ∷ xs) x =
+    let n : ℕ = length xs in
+    let l : 8 * length (xs ++ (x ∷ [])) ≡ 8 * n + 8 = simp length-append (omega arith) in
+    let p : y * 2 ^ (8 * length (xs ++ (x ∷ []))) ≡ y * 2 ^ (8 * n) * 256 =
+    ap (λ (k : ℕ). y * 2 ^ k) l ∙ simp (pow-add, mul-assoc) in
+    omega (arith, p, word-snoc xs x, add-mul (y * 2 ^ (8 * n)) (wordOf xs) 256)
+
+-- the word of the octets so far
+pub record Joining (body : List ℕ) (word i : ℕ) : Type 0 where
+  pub upto : i ≤ 7
+  pub small : word < 2 ^ (8 * i)
+  pub joined : word ≡ wordOf (take i body)
+
+module _ (body : List ℕ) where
+  pub joining-start : Joining body 0 0
+  unfolding wordOf
+  joining-start = record { upto = omega arith; small = omega arith; joined = refl }
+
+  module _ (word i : ℕ) (j : Joining body word i) where
+    pub joining-step : length body ≡ 7 → i < 7 → getD body i 0 < 256 → Joining body (word * 256 + getD body i 0) (i + 1)
+    joining-step l lt h = record {
+      upto = omega arith;
+      small = rw (add-one i) (omega (arith, octet-more i, digits-lt (j .small) h));
+      joined = rw (add-one i, take-suc body i 0 (omega arith), word-snoc (take i body) (getD body i 0), j .joined);
+    }
+
+    pub joining-lt : i < 7 → word < 2 ^ 48
+    joining-lt lt = lt-of-lt-of-le (j .small) (pow-mono {i = 8 * i} {j = 48} (omega arith))
+
+    pub joining-end : length body ≡ 7 → i ≡ 7 → word ≡ wordOf body
+    joining-end l e = j .joined ∙ ap wordOf (take-all i body (omega arith))
+
+pub spelled-append : (bs cs : List ℕ) → spelled (bs ++ cs) ≡ spelled bs * 2 ^ length cs + spelled cs
+unfolding spelled
+spelled-append [] cs = omega arith
+spelled-append (b ∷ bs) cs =
+    let p : b * 2 ^ length (bs ++ cs) ≡ b * 2 ^ length bs * 2 ^ length cs = simp (length-append, pow-add, mul-assoc) in
+    omega (arith, p, spelled-append bs cs, add-mul (b * 2 ^ length bs) (spelled bs) (2 ^ length cs))
+
+turn-lt : (x : ℕ) → turn x < 256
+unfolding turn
+turn-lt x =
+    let l : length (reverse (digits 8 x)) ≡ 8 = length-reverse (digits 8 x) ∙ length-digits 8 x in
+    rw l at (spelled-lt (reverse (digits 8 x)) (bits-reverse (digits 8 x) (bits-digits 8 x)))
+
+pub turned-small : (xs : List ℕ) → Octets (map turn xs)
+turned-small [] i = omega arith
+turned-small (x ∷ xs) zero = turn-lt x
+turned-small (x ∷ xs) (suc i) = turned-small xs i
+
+-- octets that are turned spell their bits in order
+pub word-turned : (xs : List ℕ) → wordOf (map turn xs) ≡ spelled (bitsOf xs)
+unfolding wordOf bitsOf turn spelled
+word-turned [] = refl
+word-turned (x ∷ xs) =
+    let l : 8 * length (map turn xs) ≡ length (bitsOf xs) = omega (arith, length-map xs turn, length-bits xs) in
+    rw (l, word-turned xs) (sym (spelled-append (reverse (digits 8 x)) (bitsOf xs)))
+
+-- eight bits, turned
+turn-eight : (bs : List ℕ) → length bs ≡ 8 → Bits bs → turn (spelled bs) ≡ spelled (reverse bs)
+unfolding turn
+turn-eight bs l h = ap (λ (ds : List ℕ). spelled (reverse ds)) (ap (λ (k : ℕ). digits k (spelled bs)) (sym l) ∙ digits-spelled bs h)
+
+-- the octets that bits make are those of the number that they spell, turned
+pub turned-octets : (n : ℕ) (bs : List ℕ) → Bits bs → length bs ≡ 8 * n → map turn (octets n (spelled bs)) ≡ octetsOf n bs
+unfolding octets octetsOf
+turned-octets zero bs h e = refl
+turned-octets (suc n) bs h e =
+    let eight : List ℕ = take 8 bs in
+    let rest : List ℕ = drop 8 bs in
+    let le : length eight ≡ 8 = length-take-le 8 bs (omega arith) in
+    let lr : length rest ≡ 8 * n = length-drop 8 bs ∙ omega arith in
+    let s : spelled bs ≡ spelled eight * 2 ^ (8 * n) + spelled rest =
+    ap spelled (sym (take-append-drop 8 bs)) ∙ spelled-append eight rest ∙ ap (λ (k : ℕ). spelled eight * 2 ^ k + spelled rest) lr in
+    let small : spelled rest < 2 ^ (8 * n) = rw lr at (spelled-lt rest (bits-drop 8 bs h)) in
+    let octet : spelled eight < 256 = rw le at (spelled-lt eight (bits-take 8 bs h)) in
+    let a : (spelled eight * 2 ^ (8 * n) + spelled rest) / 2 ^ (8 * n) % 256 ≡ spelled eight =
+    ap (λ (k : ℕ). k % 256) (high (spelled eight) (8 * n) small) ∙ mod-eq-of-lt octet in
+    rw (s, a, octets-above n n (spelled eight) (spelled rest) (omega arith), turned-octets n rest (bits-drop 8 bs h) lr, turn-eight eight le (bits-take 8 bs h))
