@@ -251,8 +251,8 @@ module _ {n : ℕ} {w : Position} {input b₀ o₀ : List ℕ} {m v k left have 
     room : have + c ≤ length b
     room = omega (arith, near, h .fits, h .large, h .b-long)
 
-    long : length b₁ ≡ length b₀
-    long = rw eb (length-paste b have (drop taken input) c room inside ∙ h .b-long)
+    pub kept-long : length b₁ ≡ length b₀
+    kept-long = rw eb (length-paste b have (drop taken input) c room inside ∙ h .b-long)
 
     front : take (have + c) b₁ ≡ take have b ++ take c (drop taken input)
     front = rw eb (take-paste b have (drop taken input) c (omega (arith, room)) inside)
@@ -289,7 +289,7 @@ module _ {n : ℕ} {w : Position} {input b₀ o₀ : List ℕ} {m v k left have 
       wrote = h .wrote;
       fits = omega (arith, near, h .fits);
       large = h .large;
-      b-long = long;
+      b-long = kept-long;
       o-long = h .o-long;
       says =
           onward
@@ -312,7 +312,7 @@ module _ {n : ℕ} {w : Position} {input b₀ o₀ : List ℕ} {m v k left have 
           wrote = d .wrote;
           fits = omega (arith, near, h .fits);
           large = h .large;
-          b-long = long;
+          b-long = kept-long;
           o-long = d .o-long;
           says =
               onward

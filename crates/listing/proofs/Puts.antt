@@ -5,7 +5,7 @@ use Prim.Native.Nat.{ℕ, zero, suc, _+_, _≤_, _<_}
 use native.Mathlib.Numerals.{add-one}
 use native.Mathlib.Omega.{arith}
 use lib.ListN.{length, set, take, drop, length-append}
-use lib.Seq.{paste, set-split, length-take-le, take-at, drop-at, drop-append-le, drop-drop, append-snoc, take-length}
+use lib.Seq.{set-split, length-take-le, take-at, drop-at, drop-append-le, drop-drop, append-snoc}
 use Rattle.payload.specs.Filling.{put}
 use Rattle.payload.proofs.Stored.{length-put}
 use Rattle.listing.specs.Carried.{Puts}
@@ -31,9 +31,6 @@ module _ (o : List ℕ) (a : ℕ) (xs : List ℕ) (h : a + length xs ≤ length 
 
 pub put-one : (o : List ℕ) (a v : ℕ) → a < length o → set o a v ≡ put o a (v ∷ [])
 put-one o a v h = set-split o a v h ∙ rw (← (append-snoc (take a o) v (drop (suc a) o)), add-one a)
-
-pub put-paste : (o : List ℕ) (a : ℕ) (w : List ℕ) → paste o a (drop 0 w) (length w) ≡ put o a w
-put-paste o a w = ap (λ (l : List ℕ). (take a o ++ l) ++ drop (a + length w) o) (take-length w)
 
 -- one behind the other, as functions that store them answer
 pub puts-then : (o : List ℕ) (a : ℕ) (xs ys : List ℕ) {e f : List ℕ} {r s : ℕ} → Puts o a xs e r → Puts e r ys f s → a + length xs + length ys ≤ length o

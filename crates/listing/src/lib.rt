@@ -3,8 +3,7 @@
 ghost use mathlib.Core.Path.{_≡_};
 ghost use mathlib.Core.List.{_++_};
 ghost use Prim.Native.Nat.{_+_, _≤_, _<_, min};
-ghost use lib.ListN.{length, take, drop};
-ghost use lib.Seq.{paste};
+ghost use lib.ListN.{length, take};
 ghost use Rattle.listing.specs.Line.{decimal, row, payloadLine, closing};
 ghost use Rattle.listing.specs.Listing.{following};
 ghost use Rattle.listing.specs.Entries.{wholeAt, payloadAt};
@@ -89,25 +88,14 @@ pub fn payload_at(octets: &[u8], at: usize) -> Entry
     }
 }
 
-// Copies len octets of src, from an index on, into dst at an index.
-fn copy_part(src: &[u8], from: usize, len: usize, dst: &mut [u8], at: usize)
-    requires { ⌜ (from + len ≤ length (now src)) × (at + len ≤ length (now dst)) ⌝ }
-    ensures { λ _. ⌜ now (dst .exit) ≡ paste (now (dst .entry)) at (drop from (now (src .entry))) len ⌝ }
-{
-    let mut j = 0;
-    while j < len {
-        dst[at + j] = src[from + j];
-        j += 1;
-    }
-}
-
 // Puts a word at an index of out, and answers the index behind it.
 fn put_word(out: &mut [u8], at: usize, word: &[u8]) -> usize
     requires { ⌜ at + length (now word) ≤ length (now out) ⌝ }
     ensures { λ r. ⌜ Puts (now (out .entry)) at (now (word .entry)) (now (out .exit)) r ⌝ }
 {
-    copy_part(word, 0, word.len(), out, at);
-    at + word.len()
+    let end = at + word.len();
+    octets::copy(word, &mut out[at..end]);
+    end
 }
 
 // Puts a number's decimal digits at an index of out, and answers the index behind them.
@@ -231,9 +219,11 @@ fn go_on(
     while written + LINE_ROOM <= out.len() {
         if 0 < left {
             let count = least(left, input.len() - taken);
-            copy_part(input, taken, count, payload, have);
-            taken += count;
-            have += count;
+            let end = taken + count;
+            let full = have + count;
+            octets::copy(&input[taken..end], &mut payload[have..full]);
+            taken = end;
+            have = full;
             left -= count;
             if 0 < left {
                 return went(lines, Phase::Payload(left, have), taken, written);

@@ -1,4 +1,3 @@
-pub mod Copied
 pub mod Held
 pub mod Seen
 pub mod Onward

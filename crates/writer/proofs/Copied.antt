@@ -1,12 +1,14 @@
--- What the copying loop keeps, and what the stores of one frame leave.
+-- What the stores of one frame leave.
 use mathlib.Core.Path.{_≡_, refl, sym, ap, _∙_}
 use mathlib.Core.List.{List, [], _∷_, _++_, append-assoc}
 use Prim.Native.Nat.{ℕ, zero, suc, _+_, _-_, _≤_, _<_}
 use native.Mathlib.Nat.{zero-add, add-zero, suc-add}
 use native.Mathlib.Omega.{arith}
 use native.Mathlib.Numerals.{add-one}
-use lib.ListN.{length, getD, set, take, drop, length-set, length-drop, length-append}
-use lib.Seq.{paste, paste-zero, paste-suc, getD-drop, getD-take, sets-eq, set-append-left, length-take-le, take-at, drop-at, take-all, take-add, drop-drop}
+use lib.ListN.{length, getD, set, take, drop, length-set, length-drop, length-append, List·getD-append}
+use lib.Seq.{paste, paste-zero, length-paste, getD-append-add, getD-drop, getD-take, set-getD, sets-eq, set-append-left, length-take-le, take-at, drop-at, take-all, drop-drop}
+use Rattle.octets.specs.Copy.{over}
+use Rattle.octets.proofs.Parts.{part-copied}
 use Rattle.writer.specs.Layouts.{countIn, wireIn, FrameFits, CountFits}
 use Rattle.writer.specs.declared.Layout.{Layout}
 
@@ -28,64 +30,11 @@ paste-paste d b c a n m eb ec h =
     ∙ ap (λ (x : List ℕ). x ++ drop (a + (n + m)) d) (append-assoc (take a d) b c)
     ∙ ap (λ (x : List ℕ). take a d ++ x ++ drop (a + (n + m)) d) (sym w)
 
--- j of n octets of s, from f on, are copied to d from a on, which makes e of it
-pub record Copied (s : List ℕ) (f n : ℕ) (d : List ℕ) (a : ℕ) (e : List ℕ) (j : ℕ) : Type 0 where
-  pub upto : j ≤ n
-  pub pasted : e ≡ paste d a (drop f s) j
-  pub long : length e ≡ length d
+-- ---- rate code bits
 
-module _ (s : List ℕ) (f n : ℕ) (d : List ℕ) (a : ℕ) where
-  pub copied-start : Copied s f n d a d 0
-  copied-start = record { upto = omega arith; pasted = paste-zero d a (drop f s); long = refl }
-
-  pub copied-step : (e : List ℕ) (j : ℕ) → Copied s f n d a e j → f + n ≤ length s → a + n ≤ length d → j < n
-      → Copied s f n d a (set e (a + j) (getD s (f + j) 0)) (j + 1)
-  copied-step e j h hs hd lt = record {
-    upto = omega arith;
-    pasted =
-        rw (h .pasted, ← (getD-drop f s j 0), add-one j)
-        (paste-suc d a (drop f s) j 0 (omega arith) (omega (arith, length-drop f s)));
-    long = length-set e (a + j) (getD s (f + j) 0) ∙ h .long;
-  }
-
-  pub copied-end : (e : List ℕ) (j : ℕ) → Copied s f n d a e j → n ≤ j → e ≡ paste d a (drop f s) n
-  copied-end e j h l = let q : j ≡ n = omega (arith, h .upto) in h .pasted ∙ ap (paste d a (drop f s)) q
-
-  -- the first store, at the index itself
-  copied-first : f + n ≤ length s → a + n ≤ length d → 0 < n → Copied s f n d a (set d a (getD s f 0)) 1
-  copied-first hs hd h = rw (add-zero a, add-zero f) at (copied-step d 0 copied-start hs hd h)
-
--- the stores of j + 1 octets in a row
-abbrev stores : List ℕ → ℕ → List ℕ → ℕ → ℕ → List ℕ
-stores s f d a zero = set d a (getD s f 0)
-stores s f d a (suc j) = set (stores s f d a j) (a + suc j) (getD s (f + suc j) 0)
-
-stored : (s : List ℕ) (f n : ℕ) (d : List ℕ) (a j : ℕ) → f + n ≤ length s → a + n ≤ length d → j < n → Copied s f n d a (stores s f d a j) (j + 1)
-stored s f n d a zero hs hd h = copied-first s f n d a hs hd h
-stored s f n d a (suc j) hs hd h = rw (add-one j) at (copied-step s f n d a (stores s f d a j) (j + 1) (stored s f n d a j hs hd (omega arith)) hs hd (omega arith))
-
-pub seven : (s : List ℕ) (f : ℕ) (d : List ℕ) (a : ℕ) → f + 7 ≤ length s → a + 7 ≤ length d
-    → set (set (set (set (set (set (set d a (getD s f 0)) (a + 1) (getD s (f + 1) 0)) (a + 2) (getD s (f + 2) 0)) (a + 3) (getD s (f + 3) 0)) (a + 4) (getD s (f + 4) 0)) (a + 5) (getD s (f + 5) 0)) (a + 6) (getD s (f + 6) 0)
-    ≡ paste d a (drop f s) 7
-seven s f d a hs hd = stored s f 7 d a 6 hs hd (omega arith) .pasted
-
--- a copy and the copy of what follows are one copy
-pub copied-on : (s : List ℕ) (f n m : ℕ) (d : List ℕ) (a : ℕ) {e g : List ℕ} → f + n ≤ length s → a + n ≤ length d → m ≤ n
-    → e ≡ paste d a (drop f s) m → g ≡ paste e (a + m) (drop (f + m) s) (n - m) → g ≡ paste d a (drop f s) n
-copied-on s f n m d a {e} {g} hs hd l ee eg =
-    let k : ℕ = n - m in
-    let q : m + k ≡ n = omega arith in
-    let b : List ℕ = take m (drop f s) in
-    let c : List ℕ = take k (drop (f + m) s) in
-    let lb : length b ≡ m = length-take-le m (drop f s) (omega (arith, length-drop f s)) in
-    let lc : length c ≡ k = length-take-le k (drop (f + m) s) (omega (arith, length-drop (f + m) s)) in
-    let j : b ++ c ≡ take (m + k) (drop f s) = ap (λ (x : List ℕ). b ++ take k x) (sym (drop-drop m f s)) ∙ sym (take-add m k (drop f s)) in
-    eg
-    ∙ ap (λ (x : List ℕ). paste x (a + m) (drop (f + m) s) k) ee
-    ∙ ap (λ (x : List ℕ). take (a + m) (paste d a (drop f s) m) ++ x ++ drop (a + m + k) (paste d a (drop f s) m)) (sym (take-all k c (omega arith)))
-    ∙ paste-paste d b c a m k lb lc (omega arith)
-    ∙ ap (λ (x : List ℕ). take a d ++ x ++ drop (a + (m + k)) d) (take-all (m + k) (b ++ c) (omega (arith, length-append b c)) ∙ j)
-    ∙ ap (paste d a (drop f s)) q
+-- none
+pub code-none : (d : List ℕ) (a o c : ℕ) → getD d a 0 ≡ o → c ≡ 0 → d ≡ set d a (o + c)
+code-none d a o c e z = sym (ap (set d a) (ap (λ (y : ℕ). o + y) z ∙ add-zero o ∙ sym e) ∙ set-getD d a 0)
 
 -- ---- the count
 
@@ -122,7 +71,41 @@ set-pasted d s a n j v hd hs hj =
     set-append-left (take a d ++ take n s) (drop (a + n) d) (a + j) v (omega (arith, length-append (take a d) (take n s)))
     ∙ ap (λ (r : List ℕ). r ++ drop (a + n) d) (ap (λ (k : ℕ). set (take a d ++ take n s) (k + j) v) (sym l) ∙ set-append-add (take a d) (take n s) j v)
 
+-- what was pasted
+getD-pasted : (d s : List ℕ) (a n j : ℕ) → a + n ≤ length d → n ≤ length s → j < n → getD (paste d a s n) (a + j) 0 ≡ getD s j 0
+getD-pasted d s a n j hd hs hj =
+    let l : length (take a d) ≡ a = length-take-le a d (omega arith) in
+    let m : length (take n s) ≡ n = length-take-le n s hs in
+    List·getD-append (take a d ++ take n s) (drop (a + n) d) 0 (a + j) (omega (arith, length-append (take a d) (take n s)))
+    ∙ ap (λ (k : ℕ). getD (take a d ++ take n s) (k + j) 0) (sym l)
+    ∙ getD-append-add (take a d) (take n s) j 0
+    ∙ getD-take n s j 0 hj
+
 module _ (bs : List ℕ) (f : ℕ) (x : Layout) (d : List ℕ) (a : ℕ) (fits : FrameFits bs f x (length d) a) where
+  -- the body, copied
+  pub body-copied : {y : List ℕ} → y ≡ over (take (f + (x .size + x .tc) - f) (drop f bs)) (take (a + (x .size + x .tc) - a) (drop a d))
+      → take a d ++ (y ++ drop (a + (x .size + x .tc) - a) (drop a d)) ≡ paste d a (drop f bs) (x .size + x .tc)
+  body-copied = part-copied bs d f (f + (x .size + x .tc)) a (a + (x .size + x .tc)) (x .size + x .tc) refl refl (fits .lent) (omega (arith, fits .count .inside))
+
+  -- then what the rate code bits are added to
+  module _ {e : List ℕ} (ee : e ≡ paste d a (drop f bs) (x .size + x .tc)) where
+    long-copied : length e ≡ length d
+    long-copied = ap length ee ∙ length-paste d a (drop f bs) (x .size + x .tc) (omega (arith, fits .count .inside)) (omega (arith, length-drop f bs, fits .lent))
+
+    pub code-fits : (a + (x .size - 1) < length e) × (getD e (a + (x .size - 1)) 0 ≡ getD bs (f + (x .size - 1)) 0) × (getD bs (f + (x .size - 1)) 0 + x .code < 256)
+    code-fits = (
+      omega (arith, long-copied, fits .count .inside, fits .base),
+      ap (λ (l : List ℕ). getD l (a + (x .size - 1)) 0) ee
+          ∙ getD-pasted d (drop f bs) a (x .size + x .tc) (x .size - 1) (omega (arith, fits .count .inside)) (omega (arith, length-drop f bs, fits .lent)) (omega (arith, fits .base))
+          ∙ getD-drop f bs (x .size - 1) 0,
+      fits .end,
+    )
+
+    pub count-fits : (v : ℕ) {g : List ℕ} → g ≡ set e (a + (x .size - 1)) v → CountFits (length g) (a + (x .size + x .tc)) (x .tc) (x .count)
+    count-fits v eg =
+        let l = ap length eg ∙ length-set e (a + (x .size - 1)) v ∙ long-copied in
+        record { inside = omega (arith, l, fits .count .inside); few = fits .count .few; small = fits .count .small; short = fits .count .short }
+
   -- what the three stages leave
   pub frame-put : {e g h : List ℕ} → e ≡ paste d a (drop f bs) (x .size + x .tc) → g ≡ set e (a + (x .size - 1)) (getD bs (f + (x .size - 1)) 0 + x .code)
       → h ≡ paste g (a + (x .size + x .tc)) (countIn (x .count) (x .tc)) (x .count)

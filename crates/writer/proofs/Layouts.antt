@@ -8,12 +8,12 @@ use native.Mathlib.Decide.{ℕ-discrete}
 use lib.Dec.{eqb}
 use lib.ListN.{length, getD, set}
 use borrow.Author.Tests.{lt-ltb, le-ltb, ne-eqb, eq-eqb}
-use Rattle.wire.specs.Frame.{Kind, bps2400, bps1200, bps600, noise, tsvcis, LegalTc, number, size, top, code, rate, countOf, wireOf}
+use Rattle.wire.specs.Frame.{Kind, bps2400, bps1200, bps600, noise, tsvcis, LegalTc, number, size, code, countOf, wireOf}
 use Rattle.wire.specs.Walk.{Ending, bad, got, late, clash, beside}
 use Rattle.wire.proofs.Steps.{clash-none, clash-same, clash-two}
 use Rattle.wire.proofs.Tables.{Counts, short, long, counts, count-short, count-long}
 use Rattle.writer.specs.Rows.{tcOf, rowOf}
-use Rattle.writer.specs.Layouts.{layoutOf, toldOf, countIn, wireIn, plainIn, standIn}
+use Rattle.writer.specs.Layouts.{bare, layoutOf, toldOf, countIn, wireIn, plainIn, standIn}
 use Rattle.writer.specs.declared.Layout.{Layout}
 use Rattle.writer.specs.declared.Told.{Told}
 use Rattle.writer.specs.declared.Told.the-variants.{Bad, Fits}
@@ -21,32 +21,29 @@ use Rattle.writer.proofs.Tests.{tc-legal, tc-wrong, row-number}
 
 -- ---- a kind without augmentation
 
-bare : Kind → Layout
-bare k = record { size = size k; tc = 0; count = 0; top = top k; code = code k; rate = rate k }
-
 module _ (k : Kind) (f : (t : ℕ) → t ≡ 0 → LegalTc k t) (g : (t : ℕ) → LegalTc k t → t ≡ 0) (c : countOf k 0 ≡ []) where
   plain-told : (t : ℕ) → plainIn t (bare k) ≡ toldOf (tcOf k t)
-  unfolding bare plainIn
+  unfolding plainIn
   plain-told t = go (ℕ-discrete t 0)
     where
       go : Dec (t ≡ 0) → plainIn t (bare k) ≡ toldOf (tcOf k t)
       go (yes e) = rw (tc-legal k t (f t e), e) (simp c)
       go (no e) = rw (tc-wrong k t (λ l. e (g t l))) (simp (ne-eqb t 0 e))
 
-pub plain-2400 : (t : ℕ) → plainIn t (record { size = 7; tc = 0; count = 0; top = 63; code = 0; rate = 2400 }) ≡ toldOf (tcOf bps2400 t)
-unfolding bare countOf
+pub plain-2400 : (t : ℕ) → plainIn t (bare bps2400) ≡ toldOf (tcOf bps2400 t)
+unfolding countOf
 plain-2400 = plain-told bps2400 (λ t e. e) (λ t l. l) refl
 
-pub plain-1200 : (t : ℕ) → plainIn t (record { size = 11; tc = 0; count = 0; top = 1; code = 128; rate = 1200 }) ≡ toldOf (tcOf bps1200 t)
-unfolding bare countOf
+pub plain-1200 : (t : ℕ) → plainIn t (bare bps1200) ≡ toldOf (tcOf bps1200 t)
+unfolding countOf
 plain-1200 = plain-told bps1200 (λ t e. e) (λ t l. l) refl
 
-pub plain-600 : (t : ℕ) → plainIn t (record { size = 7; tc = 0; count = 0; top = 63; code = 64; rate = 600 }) ≡ toldOf (tcOf bps600 t)
-unfolding bare countOf
+pub plain-600 : (t : ℕ) → plainIn t (bare bps600) ≡ toldOf (tcOf bps600 t)
+unfolding countOf
 plain-600 = plain-told bps600 (λ t e. e) (λ t l. l) refl
 
-pub plain-noise : (t : ℕ) → plainIn t (record { size = 2; tc = 0; count = 0; top = 31; code = 160; rate = 0 }) ≡ toldOf (tcOf noise t)
-unfolding bare countOf
+pub plain-noise : (t : ℕ) → plainIn t (bare noise) ≡ toldOf (tcOf noise t)
+unfolding countOf
 plain-noise = plain-told noise (λ t e. e) (λ t l. l) refl
 
 -- a row with the kind's number

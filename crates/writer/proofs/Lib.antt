@@ -1,5 +1,6 @@
 pub mod Tests
 pub mod Layouts
+pub mod Ways
 pub mod Sifted
 pub mod Framed
 pub mod Passed

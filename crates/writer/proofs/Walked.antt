@@ -1,25 +1,26 @@
 -- What the loops over rows and bodies keep: a cursor into both, with what is checked or written behind it.
 use mathlib.Core.Path.{_≡_, refl, sym, ap, _∙_, subst}
+use mathlib.Core.Bool.{Bool, true, false}
 use mathlib.Core.List.{List, [], _∷_, _++_, append-assoc, append-nil}
 use mathlib.Core.Option.{none}
 use Prim.Native.Nat.{ℕ, _+_, _-_, _≤_, _<_}
 use native.Mathlib.Omega.{arith}
+use lib.Dec.{ltb}
 use lib.ListN.{length, getD, take, drop, length-drop, take-append-drop}
-use lib.Seq.{paste, length-paste, take-paste, drop-paste, length-take-le, take-all, drop-drop, getD-drop, getD-take}
-use borrow.Author.Tests.{lt-ltb, le-ltb}
+use lib.Seq.{length-paste, take-paste, drop-paste, length-take-le, take-all, drop-drop, getD-drop, getD-take}
+use borrow.Author.Tests.{lt-ltb, le-ltb, ltb-true, ltb-false}
 use Rattle.wire.specs.Frame.{Frame, Kind, LegalTc, number, size, top, countOf, wireOf, octetsOf}
-use Rattle.wire.specs.Walk.{Ending, bad, got}
 use Rattle.wire.proofs.Tables.{size-pos, tc-most, end-most, count-most}
 use Rattle.wire.proofs.Octets.{length-wire}
-use Rattle.writer.specs.Rows.{Row, Rows, held, rowOf, bodyOctets, wireOctets, checkOf}
+use Rattle.writer.specs.Rows.{Row, Rows, held, bodyOctets, wireOctets, checkOf}
 use Rattle.writer.specs.Write.{framesOf, badEnd}
-use Rattle.writer.specs.Layouts.{layoutOf, toldOf, foundEnd, wireIn, FrameFits}
+use Rattle.writer.specs.Layouts.{layoutOf, foundEnd, wireIn, lookIn, lookOf, kindAt, tcAt, FrameFits, FramePut, RowAt, PutAt}
 use Rattle.writer.specs.Stages.{rowsHeld, framesIn, Agreed, Fitted}
-use Rattle.writer.specs.declared.Layout.{Layout}
-use Rattle.writer.specs.declared.Told.{Told}
-use Rattle.writer.specs.declared.Told.the-variants.{Bad, Fits}
+use Rattle.writer.specs.declared.Looked.{Looked}
+use Rattle.writer.specs.declared.Looked.the-variants.{Foreign, Next}
+use Rattle.writer.specs.declared.Starts.{Starts}
 use Rattle.writer.specs.declared.BadEnd.the-variants.{At, Nowhere}
-use Rattle.writer.proofs.Tests.{row-legal}
+use Rattle.writer.proofs.Ways.{kind-of}
 use Rattle.writer.proofs.Layouts.{wire-in, short-small}
 use Rattle.writer.proofs.Sifted.{numbersOf, RowsOfRate, passes}
 use Rattle.writer.proofs.Framed.{good-end}
@@ -32,12 +33,6 @@ LegalRows (x ∷ xs) = LegalTc (x .kind) (x .tc) × LegalRows xs
 legal-rows : (r : ℕ) (xs : List Row) → RowsOfRate r xs → LegalRows xs
 legal-rows r [] k = tt
 legal-rows r (x ∷ xs) k = (k .0, legal-rows r xs (k .2))
-
-told-layout : {e : Ending} {k : Kind} {t : ℕ} {x : Layout} {f : Told} → e ≡ got k t → f ≡ Fits x → f ≡ toldOf e → x ≡ layoutOf k t
-told-layout {k = k} {t = t} {f = f} r a q = let w : f ≡ Fits (layoutOf k t) = q ∙ ap toldOf r in cc
-
-told-no-bad : {e : Ending} {k : Kind} {t n : ℕ} {f : Told} → e ≡ got k t → f ≡ Bad n → f ≡ toldOf e → ⊥
-told-no-bad {k = k} {t = t} {f = f} r a q = let w : f ≡ Fits (layoutOf k t) = q ∙ ap toldOf r in let z : _≡_ {A = ℕ} 0 1 = cc in omega arith
 
 -- `rest` are the rows from an index of ns on, and their bodies those from an index of m octets on
 pub record Cursor (ns : List ℕ) (m at from : ℕ) (rest : List Row) : Type 0 where
@@ -57,8 +52,9 @@ module _ (ns : List ℕ) (m at from : ℕ) where
 
   -- the row at the cursor
   record Here (y : Row) (ys : List Row) : Type 0 where
-    more : at + 2 ≤ length ns
-    row : rowOf (getD ns at 0) (getD ns (at + 1) 0) ≡ got (y .kind) (y .tc)
+    kind : kindAt ns at ≡ y .kind
+    tc : tcAt ns at ≡ y .tc
+    row : RowAt ns at
     fits : from + (size (y .kind) + y .tc) ≤ m
     next : Cursor ns m (at + 2) (from + (size (y .kind) + y .tc)) ys
 
@@ -69,21 +65,22 @@ module _ (ns : List ℕ) (m at from : ℕ) where
       let a : getD ns at 0 ≡ number (y .kind) = cc in
       let b : getD ns (at + 1) 0 ≡ y .tc = cc in
       let d : drop (at + 2) ns ≡ numbersOf ys = cc in
+      let k : kindAt ns at ≡ y .kind = kind-of (y .kind) a in
       record {
-        more = more;
-        row = rw (a, b) (row-legal (y .kind) (y .tc) (c .legal .0));
+        kind = k;
+        tc = b;
+        row = record { more = more; known = a ∙ ap number (sym k); legal = rw (k, b) (c .legal .0) };
         fits = omega (arith, c .left);
         next = record { nums = d; legal = c .legal .1; inside = more; left = omega (arith, c .left) };
       }
 
-  -- no row is refused
-  cursor-bad : (rest : List Row) → Cursor ns m at from rest → at < length ns → {n : ℕ} {f : Told} → f ≡ Bad n → f ≡ toldOf (rowOf (getD ns at 0) (getD ns (at + 1) 0)) → ⊥
-  cursor-bad [] c h a q = omega (arith, cursor-end c)
-  cursor-bad (y ∷ ys) c h a q = told-no-bad (here y ys c .row) a q
+  cursor-row : (rest : List Row) → Cursor ns m at from rest → at < length ns → RowAt ns at
+  cursor-row [] c h = absurd (omega (arith, cursor-end c))
+  cursor-row (y ∷ ys) c h = here y ys c .row
 
-  cursor-more : (rest : List Row) → Cursor ns m at from rest → at < length ns → at + 2 ≤ length ns
-  cursor-more [] c h = absurd (omega (arith, cursor-end c))
-  cursor-more (y ∷ ys) c h = here y ys c .more
+  cursor-fits : (rest : List Row) → Cursor ns m at from rest → at < length ns → from + (size (kindAt ns at) + tcAt ns at) ≤ m
+  cursor-fits [] c h = absurd (omega (arith, cursor-end c))
+  cursor-fits (y ∷ ys) c h = let w = here y ys c in rw (w .kind, w .tc) (w .fits)
 
 -- ---- looking for a bad end
 
@@ -107,19 +104,10 @@ seeking-start ns bs a = record {
 end-at : (bs : List ℕ) (from : ℕ) (k : Kind) (t : ℕ) → getD (take (size k + t) (drop from bs)) (size k - 1) 0 ≡ getD bs (from + (size k - 1)) 0
 end-at bs from k t = getD-take (size k + t) (drop from bs) (size k - 1) 0 (omega (arith, size-pos k)) ∙ getD-drop from bs (size k - 1) 0
 
--- what the loops ask of the layout of the row at the cursor, before they go on
-pub record Room (m from : ℕ) (x : Layout) : Type 0 where
-  pub base : 2 ≤ x .size
-  pub fits : from + (x .size + x .tc) ≤ m
-
-room-of : (ns : List ℕ) (m at from : ℕ) (y : Row) (ys : List Row) → Cursor ns m at from (y ∷ ys) → Room m from (layoutOf (y .kind) (y .tc))
-room-of ns m at from y ys c = record { base = size-pos (y .kind); fits = here ns m at from y ys c .fits }
-
--- at a row: what its layout asks, the refusal if its end is bad, and the way on if it is not
-pub record Sought (ns bs : List ℕ) (at from : ℕ) (x : Layout) : Type 0 where
-  pub room : Room (length bs) from x
-  pub bad : x .top < getD bs (from + (x .size - 1)) 0 → At (from + (x .size - 1)) ≡ foundEnd (badEnd 0 (framesIn ns bs))
-  pub good : getD bs (from + (x .size - 1)) 0 ≤ x .top → Seeking ns bs (at + 2) (from + (x .size + x .tc))
+-- at a row of the kind k and TC t: the refusal if its end is bad, and the way on if it is not
+record Sought (ns bs : List ℕ) (at from : ℕ) (k : Kind) (t : ℕ) : Type 0 where
+  bad : top k < getD bs (from + (size k - 1)) 0 → At (from + (size k - 1)) ≡ foundEnd (badEnd 0 (framesIn ns bs))
+  good : getD bs (from + (size k - 1)) 0 ≤ top k → Seeking ns bs (at + 2) (from + (size k + t))
 
 module _ (ns bs : List ℕ) (at from : ℕ) (h : Seeking ns bs at from) where
   pub seeking-end : length ns ≤ at → Nowhere ≡ foundEnd (badEnd 0 (framesIn ns bs))
@@ -127,22 +115,21 @@ module _ (ns bs : List ℕ) (at from : ℕ) (h : Seeking ns bs at from) where
     where
       go : (rest : List Row) → Cursor ns (length bs) at from rest → badEnd from (Rest bs from rest) ≡ badEnd 0 (framesIn ns bs) → Nowhere ≡ foundEnd (badEnd 0 (framesIn ns bs))
       go [] c e = ap foundEnd e
-      go (y ∷ ys) c e = absurd (omega (arith, here ns (length bs) at from y ys c .more))
+      go (y ∷ ys) c e = absurd (omega (arith, here ns (length bs) at from y ys c .row .more))
 
   module _ (lt : at < length ns) where
-    pub seeking-more : at + 2 ≤ length ns
-    seeking-more = cursor-more ns (length bs) at from (h .rest) (h .cursor) lt
+    pub seeking-row : RowAt ns at
+    seeking-row = cursor-row ns (length bs) at from (h .rest) (h .cursor) lt
 
-    pub seeking-bad : {n : ℕ} {f : Told} → f ≡ Bad n → f ≡ toldOf (rowOf (getD ns at 0) (getD ns (at + 1) 0)) → ⊥
-    seeking-bad a q = cursor-bad ns (length bs) at from (h .rest) (h .cursor) lt a q
+    pub seeking-fits : from + (size (kindAt ns at) + tcAt ns at) ≤ length bs
+    seeking-fits = cursor-fits ns (length bs) at from (h .rest) (h .cursor) lt
 
     sought-of : (y : Row) (ys : List Row) → Cursor ns (length bs) at from (y ∷ ys) → badEnd from (Rest bs from (y ∷ ys)) ≡ badEnd 0 (framesIn ns bs)
-        → Sought ns bs at from (layoutOf (y .kind) (y .tc))
+        → Sought ns bs at from (y .kind) (y .tc)
     sought-of y ys c e =
         let n : ℕ = size (y .kind) + y .tc in
         let q = end-at bs from (y .kind) (y .tc) in
         record {
-          room = room-of ns (length bs) at from y ys c;
           bad = λ b. ap foundEnd (simp (q, lt-ltb (top (y .kind)) (getD bs (from + (size (y .kind) - 1)) 0) b) at e);
           good = λ g. record {
             rest = ys;
@@ -153,12 +140,44 @@ module _ (ns bs : List ℕ) (at from : ℕ) (h : Seeking ns bs at from) where
           };
         }
 
-    pub sought : (x : Layout) {f : Told} → f ≡ Fits x → f ≡ toldOf (rowOf (getD ns at 0) (getD ns (at + 1) 0)) → Sought ns bs at from x
-    sought x {f} a q = go (h .rest) (h .cursor) (h .same)
+    sought : Sought ns bs at from (kindAt ns at) (tcAt ns at)
+    sought = go (h .rest) (h .cursor) (h .same)
       where
-        go : (rest : List Row) → Cursor ns (length bs) at from rest → badEnd from (Rest bs from rest) ≡ badEnd 0 (framesIn ns bs) → Sought ns bs at from x
+        go : (rest : List Row) → Cursor ns (length bs) at from rest → badEnd from (Rest bs from rest) ≡ badEnd 0 (framesIn ns bs)
+            → Sought ns bs at from (kindAt ns at) (tcAt ns at)
         go [] c e = absurd (omega (arith, cursor-end ns (length bs) at from c))
-        go (y ∷ ys) c e = subst (Sought ns bs at from) (sym (told-layout (here ns (length bs) at from y ys c .row) a q)) (sought-of y ys c e)
+        go (y ∷ ys) c e = let w = here ns (length bs) at from y ys c in rw (w .kind, w .tc) (sought-of y ys c e)
+
+    -- what the end of the body shows
+    module _ {r : Looked} (q : r ≡ lookOf bs from (kindAt ns at) (tcAt ns at)) where
+      end : ℕ
+      end = getD bs (from + (size (kindAt ns at) - 1)) 0
+
+      pub seeking-bad : (place : ℕ) → r ≡ Foreign place → At place ≡ foundEnd (badEnd 0 (framesIn ns bs))
+      unfolding lookIn end
+      seeking-bad place a = go (ltb (top (kindAt ns at)) end) refl
+        where
+          go : (b : Bool) → ltb (top (kindAt ns at)) end ≡ b → At place ≡ foundEnd (badEnd 0 (framesIn ns bs))
+          go true t =
+              let w : r ≡ Foreign (from + (size (kindAt ns at) - 1)) = simp t at q in
+              let p : place ≡ from + (size (kindAt ns at) - 1) = cc in
+              ap At p ∙ sought .bad (ltb-true (top (kindAt ns at)) end t)
+          go false t =
+              let w : r ≡ Next (from + (size (kindAt ns at) + tcAt ns at)) = simp t at q in
+              absurd (let z : _≡_ {A = ℕ} 0 1 = cc in omega arith)
+
+      pub seeking-on : (next : ℕ) → r ≡ Next next → Seeking ns bs (at + 2) next
+      unfolding lookIn end
+      seeking-on next a = go (ltb (top (kindAt ns at)) end) refl
+        where
+          go : (b : Bool) → ltb (top (kindAt ns at)) end ≡ b → Seeking ns bs (at + 2) next
+          go true t =
+              let w : r ≡ Foreign (from + (size (kindAt ns at) - 1)) = simp t at q in
+              absurd (let z : _≡_ {A = ℕ} 0 1 = cc in omega arith)
+          go false t =
+              let w : r ≡ Next (from + (size (kindAt ns at) + tcAt ns at)) = simp t at q in
+              let p : next ≡ from + (size (kindAt ns at) + tcAt ns at) = cc in
+              rw p (sought .good (ltb-false (top (kindAt ns at)) end t))
 
 -- ---- writing the frames
 
@@ -186,12 +205,10 @@ putting-start ns bs out f =
       long = refl;
     }
 
--- at a row: its layout's frame fits, and with it written the way on
-pub record Put (ns bs out₀ : List ℕ) (at from to : ℕ) (out : List ℕ) (x : Layout) : Type 0 where
-  pub room : Room (length bs) from x
-  pub fits : FrameFits bs from x (length out) to
-  pub then : {e : List ℕ} → e ≡ paste out to (wireIn x (take (x .size + x .tc) (drop from bs))) (x .size + x .tc + x .count)
-      → Putting ns bs out₀ (at + 2) (from + (x .size + x .tc)) (to + (x .size + x .tc + x .count)) e
+-- at a row of the kind k and TC t: its frame fits, and with it written the way on
+record Put (ns bs out₀ : List ℕ) (at from to : ℕ) (out : List ℕ) (k : Kind) (t : ℕ) : Type 0 where
+  fits : FrameFits bs from (layoutOf k t) (length out) to
+  then : {r : Starts} {e : List ℕ} → FramePut bs from (layoutOf k t) out to r e → Putting ns bs out₀ (at + 2) (r .body) (r .frame) e
 
 module _ (ns bs out₀ : List ℕ) (at from to : ℕ) (out : List ℕ) (h : Putting ns bs out₀ at from to out) where
   pub putting-end : length ns ≤ at → out ≡ octetsOf (framesIn ns bs) ++ drop (length (octetsOf (framesIn ns bs))) out₀
@@ -206,17 +223,11 @@ module _ (ns bs out₀ : List ℕ) (at from to : ℕ) (out : List ℕ) (h : Putt
           ∙ ap (λ (r : List ℕ). take to out ++ r) (h .beyond)
           ∙ ap (λ (r : List ℕ). r ++ drop to out₀) t
           ∙ ap (λ (k : ℕ). octetsOf (framesIn ns bs) ++ drop k out₀) (sym n)
-      go (y ∷ ys) c e = absurd (omega (arith, here ns (length bs) at from y ys c .more))
+      go (y ∷ ys) c e = absurd (omega (arith, here ns (length bs) at from y ys c .row .more))
 
   module _ (lt : at < length ns) where
-    pub putting-more : at + 2 ≤ length ns
-    putting-more = cursor-more ns (length bs) at from (h .rest) (h .cursor) lt
-
-    pub putting-bad : {n : ℕ} {f : Told} → f ≡ Bad n → f ≡ toldOf (rowOf (getD ns at 0) (getD ns (at + 1) 0)) → ⊥
-    putting-bad a q = cursor-bad ns (length bs) at from (h .rest) (h .cursor) lt a q
-
     put-of : (y : Row) (ys : List Row) → Cursor ns (length bs) at from (y ∷ ys) → badEnd from (Rest bs from (y ∷ ys)) ≡ none → to + wireOctets (y ∷ ys) ≤ length out
-        → take to out ++ octetsOf (Rest bs from (y ∷ ys)) ≡ octetsOf (framesIn ns bs) → Put ns bs out₀ at from to out (layoutOf (y .kind) (y .tc))
+        → take to out ++ octetsOf (Rest bs from (y ∷ ys)) ≡ octetsOf (framesIn ns bs) → Put ns bs out₀ at from to out (y .kind) (y .tc)
     put-of y ys c ends room same =
         let k : Kind = y .kind in
         let t : ℕ = y .tc in
@@ -230,14 +241,13 @@ module _ (ns bs out₀ : List ℕ) (at from to : ℕ) (out : List ℕ) (h : Putt
         let i : wireIn (layoutOf k t) b ≡ wireOf k t b = wire-in k t b (c .legal .0) in
         let lw : length (wireIn (layoutOf k t) b) ≡ w = ap length i ∙ length-wire k t b lb in
         record {
-          room = room-of ns (length bs) at from y ys c;
           fits = record {
             base = omega (arith, size-pos k);
             lent = at-row .fits;
             count = record { inside = omega arith; few = count-most k t; small = tc-most k t (c .legal .0); short = short-small k t (c .legal .0) };
             end = omega (arith, end-most k, end-at bs from k t, g .0);
           };
-          then = λ {e} p. record {
+          then = λ {r} {e} put. let p = put .octets in subst (λ (s : Starts). Putting ns bs out₀ (at + 2) (s .body) (s .frame) e) (sym (put .starts)) (record {
             rest = ys;
             cursor = at-row .next;
             ends = ap (λ (l : List ℕ). badEnd (from + n) (framesOf ys l)) (sym d) ∙ g .1;
@@ -255,13 +265,19 @@ module _ (ns bs out₀ : List ℕ) (at from to : ℕ) (out : List ℕ) (h : Putt
                 ∙ ap (drop w) (h .beyond)
                 ∙ drop-drop w to out₀;
             long = ap length p ∙ length-paste out to (wireIn (layoutOf k t) b) w (omega arith) (omega arith) ∙ h .long;
-          };
+          });
         }
 
-    pub put-row : (x : Layout) {f : Told} → f ≡ Fits x → f ≡ toldOf (rowOf (getD ns at 0) (getD ns (at + 1) 0)) → Put ns bs out₀ at from to out x
-    put-row x {f} a q = go (h .rest) (h .cursor) (h .ends) (h .room) (h .same)
+    put : Put ns bs out₀ at from to out (kindAt ns at) (tcAt ns at)
+    put = go (h .rest) (h .cursor) (h .ends) (h .room) (h .same)
       where
         go : (rest : List Row) → Cursor ns (length bs) at from rest → badEnd from (Rest bs from rest) ≡ none → to + wireOctets rest ≤ length out
-            → take to out ++ octetsOf (Rest bs from rest) ≡ octetsOf (framesIn ns bs) → Put ns bs out₀ at from to out x
+            → take to out ++ octetsOf (Rest bs from rest) ≡ octetsOf (framesIn ns bs) → Put ns bs out₀ at from to out (kindAt ns at) (tcAt ns at)
         go [] c s r e = absurd (omega (arith, cursor-end ns (length bs) at from c))
-        go (y ∷ ys) c s r e = subst (Put ns bs out₀ at from to out) (sym (told-layout (here ns (length bs) at from y ys c .row) a q)) (put-of y ys c s r e)
+        go (y ∷ ys) c s r e = let w = here ns (length bs) at from y ys c in rw (w .kind, w .tc) (put-of y ys c s r e)
+
+    pub putting-at : PutAt ns bs at from (length out) to
+    putting-at = record { row = cursor-row ns (length bs) at from (h .rest) (h .cursor) lt; frame = put .fits }
+
+    pub putting-on : {r : Starts} {e : List ℕ} → FramePut bs from (layoutOf (kindAt ns at) (tcAt ns at)) out to r e → Putting ns bs out₀ (at + 2) (r .body) (r .frame) e
+    putting-on p = put .then p

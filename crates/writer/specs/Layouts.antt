@@ -5,19 +5,27 @@ use mathlib.Core.List.{List, [], _∷_, _++_}
 use mathlib.Core.Option.{Option, none, some}
 use Prim.Native.Nat.{ℕ, _+_, _-_, _≤_, _<_}
 use lib.Dec.{ltb, eqb}
-use lib.ListN.{length, getD, set}
+use lib.ListN.{length, getD, set, take, drop}
+use lib.Seq.{paste}
 use Rattle.refusal.specs.Numbers.{noiseNotLast, mixedRates, wrongTc}
-use Rattle.wire.specs.Frame.{Kind, tsvcis, size, top, code, rate, countOf}
+use Rattle.wire.specs.Frame.{Kind, bps2400, bps1200, bps600, noise, tsvcis, LegalTc, number, size, top, code, rate, countOf}
 use Rattle.wire.specs.Walk.{Ending, bad, got, clash}
 use Rattle.writer.specs.declared.Layout.{Layout}
 use Rattle.writer.specs.declared.Told.{Told}
 use Rattle.writer.specs.declared.Told.the-variants.{Bad, Fits}
+use Rattle.writer.specs.declared.Looked.{Looked}
+use Rattle.writer.specs.declared.Looked.the-variants.{Foreign, Next}
+use Rattle.writer.specs.declared.Starts.{Starts}
 use Rattle.writer.specs.declared.BadEnd.{BadEnd}
 use Rattle.writer.specs.declared.BadEnd.the-variants.{At, Nowhere}
 
--- all that the code asks of a frame of a kind and TC
+-- all that the code asks of a frame of a kind and TC, when it writes it
 abbrev pub layoutOf : Kind → ℕ → Layout
-layoutOf k t = record { size = size k; tc = t; count = length (countOf k t); top = top k; code = code k; rate = rate k }
+layoutOf k t = record { size = size k; tc = t; count = length (countOf k t); code = code k; rate = rate k }
+
+-- the same of a kind without augmentation
+abbrev pub bare : Kind → Layout
+bare k = record { size = size k; tc = 0; count = 0; code = code k; rate = rate k }
 
 -- what a row says, as the code answers it
 abbrev pub toldOf : Ending → Told
@@ -46,10 +54,6 @@ unfoldable pub standIn : ℕ → ℕ → Layout → Told
 standIn later s x =
     cond (eqb (x .rate) 0) (cond (ltb 0 later) (Bad noiseNotLast) (Fits x)) (cond (clash (x .rate) s) (Bad mixedRates) (Fits x))
 
--- a TSVCIS frame of TC t has n octets of count
-abbrev pub CountIs : ℕ → ℕ → Type 0
-CountIs t n = length (countOf tsvcis t) ≡ n
-
 -- a buffer of `room` octets holds c octets of count from an index on
 pub record CountFits (room at t c : ℕ) : Type 0 where
   pub inside : at + c ≤ room
@@ -63,3 +67,42 @@ pub record FrameFits (bs : List ℕ) (from : ℕ) (x : Layout) (room at : ℕ) :
   pub lent : from + (x .size + x .tc) ≤ length bs
   pub count : CountFits room (at + (x .size + x .tc)) (x .tc) (x .count)
   pub end : getD bs (from + (x .size - 1)) 0 + x .code < 256
+
+-- the starts of the next body and the next frame, and what is left in `out`, where the frame of a body of bs was written
+pub record FramePut (bs : List ℕ) (from : ℕ) (x : Layout) (out : List ℕ) (at : ℕ) (r : Starts) (left : List ℕ) : Type 0 where
+  pub starts : r ≡ record { body = from + (x .size + x .tc); frame = at + (x .size + x .tc + x .count) }
+  pub octets : left ≡ paste out at (wireIn x (take (x .size + x .tc) (drop from bs))) (x .size + x .tc + x .count)
+
+-- what the end b of a body shows that starts at `from`, with n octets, t of augmentation, and an end of m at most
+unfoldable pub lookIn : ℕ → ℕ → ℕ → ℕ → ℕ → Looked
+lookIn b from n t m = cond (ltb m b) (Foreign (from + (n - 1))) (Next (from + (n + t)))
+
+-- the same in the words of wire
+abbrev pub lookOf : List ℕ → ℕ → Kind → ℕ → Looked
+lookOf bs from k t = lookIn (getD bs (from + (size k - 1)) 0) from (size k) t (top k)
+
+-- ---- rows that the checks have passed
+
+-- the kind that a row's number names
+unfoldable pub kindOf : ℕ → Kind
+kindOf n =
+    cond (eqb n (number bps2400)) bps2400
+    (cond (eqb n (number tsvcis)) tsvcis (cond (eqb n (number bps600)) bps600 (cond (eqb n (number bps1200)) bps1200 noise)))
+
+-- the kind and the TC of the row at an index
+abbrev pub kindAt : List ℕ → ℕ → Kind
+kindAt ns at = kindOf (getD ns at 0)
+
+abbrev pub tcAt : List ℕ → ℕ → ℕ
+tcAt ns at = getD ns (at + 1) 0
+
+-- there is a row at this index, of a known kind and a TC that is legal for it
+pub record RowAt (ns : List ℕ) (at : ℕ) : Type 0 where
+  pub more : at + 2 ≤ length ns
+  pub known : getD ns at 0 ≡ number (kindAt ns at)
+  pub legal : LegalTc (kindAt ns at) (tcAt ns at)
+
+-- and its frame can be written
+pub record PutAt (ns bs : List ℕ) (at from room to : ℕ) : Type 0 where
+  pub row : RowAt ns at
+  pub frame : FrameFits bs from (layoutOf (kindAt ns at) (tcAt ns at)) room to

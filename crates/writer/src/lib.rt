@@ -2,25 +2,24 @@
 ghost use mathlib.Core.Path.{_≡_};
 ghost use mathlib.Core.List.{[]};
 ghost use Prim.Native.Nat.{_+_, _-_, _*_, _≤_, _<_};
-ghost use lib.ListN.{length, getD, take, drop};
+ghost use lib.ListN.{length, getD, set};
 ghost use lib.Seq.{paste};
-ghost use Rattle.wire.specs.Frame.{tsvcis};
-ghost use Rattle.wire.specs.Walk.{beside, got};
+ghost use Rattle.wire.specs.Frame.{bps2400, bps1200, bps600, noise, tsvcis, size, countOf};
+ghost use Rattle.wire.specs.Walk.{beside};
 ghost use Rattle.writer.specs.Rows.{tcOf, rowOf, rowByRow, totalOf, checkOf};
 ghost use Rattle.writer.specs.Write.{wrote, badEnd, writeOf, outOf};
-ghost use Rattle.writer.specs.Layouts.{toldOf, foundEnd, countIn, wireIn, plainIn, standIn, CountIs, FrameFits, CountFits};
+ghost use Rattle.writer.specs.Layouts.{bare, layoutOf, toldOf, foundEnd, countIn, plainIn, standIn, lookIn, lookOf, kindAt, tcAt, RowAt, FrameFits, CountFits, FramePut, PutAt};
 ghost use Rattle.writer.specs.Answers.{rowAnswerOf};
 ghost use Rattle.writer.specs.Stages.{framesIn, Agreed, Fitted, Ready, Ends};
 ghost use Rattle.writer.specs.Promise.{Checks, Writes};
 use refusal::Refusal;
 
-// What a row's frame is made of: octets of its base, octets of augmentation, octets of count; the most that the base's last
-// octet may be in the body, the rate code bits that the wire adds to it, and the rate.
+// What a row's frame is made of: octets of its base, octets of augmentation, octets of count; the rate code bits that the wire
+// adds to the base's last octet, and the rate.
 struct Layout {
     size: usize,
     tc: usize,
     count: usize,
-    top: u8,
     code: u8,
     rate: u32,
 }
@@ -56,42 +55,106 @@ enum BadEnd {
     Nowhere,
 }
 
+// What the end of a body shows: that it is bad, at its index; or where the next body starts.
+enum Looked {
+    Foreign(usize),
+    Next(usize),
+}
+
+// Where the next body and the next frame start.
+struct Starts {
+    body: usize,
+    frame: usize,
+}
+
 fn wide(x: u16) -> usize
     ensures { λ r. ⌜ r ≡ x ⌝ }
 {
     x as usize
 }
 
-// A row of a kind without augmentation.
-fn plain(tc: u16, size: usize, top: u8, code: u8, rate: u32) -> Told
-    ensures { λ r. ⌜ r ≡ plainIn tc (record { size = size; tc = 0; count = 0; top = top; code = code; rate = rate }) ⌝ }
+// The layouts of the kinds, each made in one place.
+fn layout_2400() -> Layout
+    ensures { λ r. ⌜ r ≡ bare bps2400 ⌝ }
 {
-    if tc == 0 {
-        return Told::Fits(Layout {
-            size,
-            tc: 0,
-            count: 0,
-            top,
-            code,
-            rate,
-        });
-    }
-    Told::Bad(refusal::WRONG_TC)
-}
-
-// A TSVCIS row whose count takes `count` octets.
-fn augmented(tc: usize, count: usize) -> Told
-    requires { ⌜ CountIs tc count ⌝ }
-    ensures { λ r. ⌜ r ≡ toldOf (got tsvcis tc) ⌝ }
-{
-    Told::Fits(Layout {
+    Layout {
         size: 7,
-        tc,
-        count,
-        top: 63,
+        tc: 0,
+        count: 0,
         code: 0,
         rate: 2400,
-    })
+    }
+}
+
+fn layout_1200() -> Layout
+    ensures { λ r. ⌜ r ≡ bare bps1200 ⌝ }
+{
+    Layout {
+        size: 11,
+        tc: 0,
+        count: 0,
+        code: 128,
+        rate: 1200,
+    }
+}
+
+fn layout_600() -> Layout
+    ensures { λ r. ⌜ r ≡ bare bps600 ⌝ }
+{
+    Layout {
+        size: 7,
+        tc: 0,
+        count: 0,
+        code: 64,
+        rate: 600,
+    }
+}
+
+fn layout_noise() -> Layout
+    ensures { λ r. ⌜ r ≡ bare noise ⌝ }
+{
+    Layout {
+        size: 2,
+        tc: 0,
+        count: 0,
+        code: 160,
+        rate: 0,
+    }
+}
+
+// How many octets the count of a TSVCIS frame takes.
+fn count_octets(tc: u16) -> usize
+    ensures { λ r. ⌜ r ≡ length (countOf tsvcis tc) ⌝ }
+{
+    if tc < 15 {
+        return 2;
+    }
+    if tc <= 77 {
+        return 1;
+    }
+    2
+}
+
+fn layout_tsvcis(tc: u16) -> Layout
+    ensures { λ r. ⌜ r ≡ layoutOf tsvcis tc ⌝ }
+{
+    Layout {
+        size: 7,
+        tc: wide(tc),
+        count: count_octets(tc),
+        code: 0,
+        rate: 2400,
+    }
+}
+
+// A row of a kind without augmentation.
+fn plain(tc: u16, layout: Layout) -> Told
+    ensures { λ r. ⌜ r ≡ plainIn tc layout ⌝ }
+{
+    if tc == 0 {
+        return Told::Fits(layout);
+    }
+    Told::Bad(refusal::WRONG_TC)
 }
 
 // A TSVCIS row.
@@ -101,36 +164,34 @@ fn tsvcis_row(tc: u16) -> Told
     if tc == 0 {
         return Told::Bad(refusal::WRONG_TC);
     }
-    if tc < 15 {
-        return augmented(wide(tc), 2);
+    if 255 < tc {
+        return Told::Bad(refusal::WRONG_TC);
     }
-    if tc <= 77 {
-        return augmented(wide(tc), 1);
-    }
-    if tc <= 255 {
-        return augmented(wide(tc), 2);
-    }
-    Told::Bad(refusal::WRONG_TC)
+    Told::Fits(layout_tsvcis(tc))
 }
 
-// What the two numbers of a row say: 12, 13, or its frame's layout.
+// What the two numbers of a row say: 12, 13, or its frame's layout. Of five tests for equality the compiler would make a jump
+// through a table, which costs more here.
 fn row(kind: u16, tc: u16) -> Told
     ensures { λ r. ⌜ r ≡ toldOf (rowOf kind tc) ⌝ }
 {
-    if kind == 1 {
-        return plain(tc, 7, 63, 0, 2400);
-    }
     if kind == 5 {
         return tsvcis_row(tc);
     }
-    if kind == 3 {
-        return plain(tc, 7, 63, 64, 600);
+    if kind == 0 {
+        return Told::Bad(refusal::UNKNOWN);
     }
-    if kind == 2 {
-        return plain(tc, 11, 1, 128, 1200);
+    if kind < 2 {
+        return plain(tc, layout_2400());
     }
-    if kind == 4 {
-        return plain(tc, 2, 31, 160, 0);
+    if kind < 3 {
+        return plain(tc, layout_1200());
+    }
+    if kind < 4 {
+        return plain(tc, layout_600());
+    }
+    if kind < 5 {
+        return plain(tc, layout_noise());
     }
     Told::Bad(refusal::UNKNOWN)
 }
@@ -233,6 +294,34 @@ pub fn check_rows(rows: &[u16]) -> RowCheck
     row_by_row(rows, n)
 }
 
+// Looks at the end of the body that starts at `from`, of `size` octets and `tc` of augmentation; `top` is the most that it may be.
+fn body_end(bodies: &[u8], from: usize, size: usize, tc: usize, top: u8) -> Looked
+    requires { ⌜ (1 ≤ size) × (from + (size + tc) ≤ length (now bodies)) ⌝ }
+    ensures { λ r. ⌜ r ≡ lookIn (getD (now (bodies .entry)) (from + (size - 1)) 0) from size tc top ⌝ }
+{
+    let end = from + (size - 1);
+    if top < bodies[end] {
+        return Looked::Foreign(end);
+    }
+    Looked::Next(from + (size + tc))
+}
+
+// The same for a row that the checks have passed. Each kind goes its own way, here and in `put_row`, so that the compiler knows
+// its numbers.
+fn look(rows: &[u16], at: usize, bodies: &[u8], from: usize) -> Looked
+    requires { ⌜ RowAt (now rows) at × (from + (size (kindAt (now rows) at) + tcAt (now rows) at) ≤ length (now bodies)) ⌝ }
+    ensures { λ r. ⌜ r ≡ lookOf (now (bodies .entry)) from (kindAt (now (rows .entry)) at) (tcAt (now (rows .entry)) at) ⌝ }
+{
+    let kind = rows[at];
+    if kind == 2 {
+        return body_end(bodies, from, 11, 0, 1);
+    }
+    if kind == 4 {
+        return body_end(bodies, from, 2, 0, 31);
+    }
+    body_end(bodies, from, 7, wide(rows[at + 1]), 63)
+}
+
 // The first bad end among the bodies.
 fn bad_end(rows: &[u16], bodies: &[u8]) -> BadEnd
     requires { ⌜ Agreed (now rows) (length (now bodies)) ⌝ }
@@ -241,17 +330,13 @@ fn bad_end(rows: &[u16], bodies: &[u8]) -> BadEnd
     let mut at: usize = 0;
     let mut from: usize = 0;
     while at < rows.len() {
-        let told = row_at(rows, at);
-        match told {
-            Told::Bad(_) => {
-                return BadEnd::Nowhere;
+        let looked = look(rows, at, bodies, from);
+        match looked {
+            Looked::Foreign(end) => {
+                return BadEnd::At(end);
             }
-            Told::Fits(layout) => {
-                let end = from + (layout.size - 1);
-                if layout.top < bodies[end] {
-                    return BadEnd::At(end);
-                }
-                from += layout.size + layout.tc;
+            Looked::Next(next) => {
+                from = next;
                 at += 2;
             }
         }
@@ -259,50 +344,15 @@ fn bad_end(rows: &[u16], bodies: &[u8]) -> BadEnd
     BadEnd::Nowhere
 }
 
-// Copies n octets.
-fn copy(src: &[u8], from: usize, n: usize, out: &mut [u8], at: usize)
-    requires { ⌜ (from + n ≤ length (now src)) × (at + n ≤ length (now out)) ⌝ }
-    ensures { λ _. ⌜ now (out .exit) ≡ paste (now (out .entry)) at (drop from (now (src .entry))) n ⌝ }
+// Adds rate code bits, where there are any, to an octet that stands at an index.
+fn put_code(out: &mut [u8], at: usize, octet: u8, code: u8)
+    requires { ⌜ (at < length (now out)) × (getD (now out) at 0 ≡ octet) × (octet + code < 256) ⌝ }
+    ensures { λ _. ⌜ now (out .exit) ≡ set (now (out .entry)) at (octet + code) ⌝ }
 {
-    let mut j = 0;
-    while j < n {
-        out[at + j] = src[from + j];
-        j += 1;
-    }
-}
-
-// Copies seven octets, all read before one is written, so that they move together.
-fn copy_seven(src: &[u8], from: usize, out: &mut [u8], at: usize)
-    requires { ⌜ (from + 7 ≤ length (now src)) × (at + 7 ≤ length (now out)) ⌝ }
-    ensures { λ _. ⌜ now (out .exit) ≡ paste (now (out .entry)) at (drop from (now (src .entry))) 7 ⌝ }
-{
-    let a = src[from];
-    let b = src[from + 1];
-    let c = src[from + 2];
-    let d = src[from + 3];
-    let e = src[from + 4];
-    let f = src[from + 5];
-    let g = src[from + 6];
-    out[at] = a;
-    out[at + 1] = b;
-    out[at + 2] = c;
-    out[at + 3] = d;
-    out[at + 4] = e;
-    out[at + 5] = f;
-    out[at + 6] = g;
-}
-
-// Copies a body of n octets: all but comfort noise have seven and more.
-fn copy_body(src: &[u8], from: usize, n: usize, out: &mut [u8], at: usize)
-    requires { ⌜ (from + n ≤ length (now src)) × (at + n ≤ length (now out)) ⌝ }
-    ensures { λ _. ⌜ now (out .exit) ≡ paste (now (out .entry)) at (drop from (now (src .entry))) n ⌝ }
-{
-    if n < 7 {
-        copy(src, from, n, out, at);
+    if code == 0 {
         return;
     }
-    copy_seven(src, from, out, at);
-    copy(src, from + 7, n - 7, out, at + 7);
+    out[at] = octet + code;
 }
 
 // Writes a count of that many octets.
@@ -321,17 +371,44 @@ fn put_count(out: &mut [u8], at: usize, tc: usize, count: usize)
     out[at + 1] = 255;
 }
 
-// Writes the frame whose body starts at `from`.
-fn put_frame(bodies: &[u8], from: usize, layout: Layout, out: &mut [u8], at: usize)
+// Writes the frame whose body starts at `from`, and answers where the next ones start.
+fn put_frame(bodies: &[u8], from: usize, layout: Layout, out: &mut [u8], at: usize) -> Starts
     requires { ⌜ FrameFits (now bodies) from layout (length (now out)) at ⌝ }
-    ensures { λ _. ⌜ now (out .exit) ≡ paste (now (out .entry)) at (wireIn layout (take (layout .size + layout .tc) (drop from (now (bodies .entry))))) (layout .size + layout .tc + layout .count) ⌝ }
+    ensures { λ r. ⌜ FramePut (now (bodies .entry)) from layout (now (out .entry)) at r (now (out .exit)) ⌝ }
 {
-    let tc = layout.tc;
     let size = layout.size;
-    let body = size + tc;
-    copy_body(bodies, from, body, out, at);
-    out[at + (size - 1)] = bodies[from + (size - 1)] + layout.code;
-    put_count(out, at + body, tc, layout.count);
+    let tc = layout.tc;
+    let count = layout.count;
+    let body = from + (size + tc);
+    let behind = at + (size + tc);
+    octets::copy(&bodies[from..body], &mut out[at..behind]);
+    put_code(out, at + (size - 1), bodies[from + (size - 1)], layout.code);
+    put_count(out, behind, tc, count);
+    Starts {
+        body,
+        frame: behind + count,
+    }
+}
+
+// The same for a row that the checks have passed.
+fn put_row(rows: &[u16], at: usize, bodies: &[u8], from: usize, out: &mut [u8], to: usize) -> Starts
+    requires { ⌜ PutAt (now rows) (now bodies) at from (length (now out)) to ⌝ }
+    ensures { λ r. ⌜ FramePut (now (bodies .entry)) from (layoutOf (kindAt (now (rows .entry)) at) (tcAt (now (rows .entry)) at)) (now (out .entry)) to r (now (out .exit)) ⌝ }
+{
+    let kind = rows[at];
+    if kind == 1 {
+        return put_frame(bodies, from, layout_2400(), out, to);
+    }
+    if kind == 5 {
+        return put_frame(bodies, from, layout_tsvcis(rows[at + 1]), out, to);
+    }
+    if kind == 3 {
+        return put_frame(bodies, from, layout_600(), out, to);
+    }
+    if kind == 2 {
+        return put_frame(bodies, from, layout_1200(), out, to);
+    }
+    put_frame(bodies, from, layout_noise(), out, to)
 }
 
 // Writes the frames.
@@ -343,19 +420,10 @@ fn put(rows: &[u16], bodies: &[u8], out: &mut [u8])
     let mut from: usize = 0;
     let mut to: usize = 0;
     while at < rows.len() {
-        let told = row_at(rows, at);
-        match told {
-            Told::Bad(_) => {
-                return;
-            }
-            Told::Fits(layout) => {
-                put_frame(bodies, from, layout, out, to);
-                let body = layout.size + layout.tc;
-                from += body;
-                to += body + layout.count;
-                at += 2;
-            }
-        }
+        let next = put_row(rows, at, bodies, from, out, to);
+        from = next.body;
+        to = next.frame;
+        at += 2;
     }
 }
 

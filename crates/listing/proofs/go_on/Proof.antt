@@ -1,11 +1,13 @@
-use mathlib.Core.Path.{refl, sym, _∙_}
-use lib.Seq.{length-take-le}
-use Prim.Native.Nat.{_-_}
+use mathlib.Core.Path.{_≡_, refl, sym}
+use lib.Seq.{paste, length-take-le}
+use Prim.Native.Nat.{_+_, _-_}
 use native.Mathlib.Omega.{arith}
-use lib.ListN.{length, take}
+use lib.ListN.{length, take, drop}
 use borrow.Author.Needs.{needs}
+use borrow.Rule.Slice.PartMut.{putMid}
+use Rattle.octets.proofs.Parts.{part-copied}
 use Rattle.listing.specs.Carried.{placeOf}
-use Rattle.listing.proofs.Carrying.{Kept, kept-start, kept-payload, kept-length, kept-few, kept-more, kept-begin, kept-empty, kept-bad, kept-took, kept-room, kept-all, kept-part, kept-whole}
+use Rattle.listing.proofs.Carrying.{Kept, kept-start, kept-payload, kept-length, kept-few, kept-more, kept-begin, kept-empty, kept-bad, kept-took, kept-room, kept-long, kept-all, kept-part, kept-whole}
 use Rattle.listing.proofs.go_on.Statement.{statement}
 use Rattle.listing.proofs.go_on.Tie as tie
 
@@ -16,6 +18,12 @@ Inv-loop lines₀ value₀ groups₀ left₀ have₀ input payload₀ out₀ tak
 abbrev μ-loop : tie.MeasureT-loop
 μ-loop lines₀ value₀ groups₀ left₀ have₀ input payload₀ out₀ taken₀ written₀ lines value groups left have payload out taken written =
     length input - taken
+
+-- what the copy leaves in the buffer
+copied : (c : tie.After-copy Inv-loop μ-loop)
+    → putMid (c .before .before .before .before .before .before .loop .have) (c .before .before .before .before .before .before .loop .have + c .before .before .before .least .result - c .before .before .before .before .before .before .loop .have) (c .before .before .before .before .before .before .loop .payload) (c .copy .last .1 .0)
+    ≡ paste (c .before .before .before .before .before .before .loop .payload) (c .before .before .before .before .before .before .loop .have) (drop (c .before .before .before .before .before .before .loop .taken) (c .before .before .before .before .before .before .before .before .before .before .args .input .now)) (c .before .before .before .least .result)
+copied c = part-copied _ _ (c .before .before .before .before .before .before .loop .taken) _ (c .before .before .before .before .before .before .loop .have) _ (c .before .before .before .least .result) refl refl (kept-took (c .before .before .before .before .before .before .loop .inv) (c .before .before .before .before .if1 .taken) (c .before .before .before .least .ensures) refl) (kept-room (c .before .before .before .before .before .before .loop .inv) (c .before .before .before .before .if1 .taken) (c .before .before .before .least .ensures) refl) (c .copy .ensures)
 
 loop-holds : tie.Need-loop-holds Inv-loop μ-loop
 loop-holds c = kept-start _ _ _ _ _ _ _ _ (c .before .before .before .pre)
@@ -29,47 +37,65 @@ sub-least c = c .before .before .loop .inv .took
 least-requires : tie.Need-least-requires Inv-loop μ-loop
 least-requires c κs = search needs
 
-copy-part-requires : tie.Need-copy-part-requires Inv-loop μ-loop
-copy-part-requires c κs = (kept-took (c .before .before .before .before .loop .inv) (c .before .before .if1 .taken) (c .before .least .ensures) refl, kept-room (c .before .before .before .before .loop .inv) (c .before .before .if1 .taken) (c .before .least .ensures) refl)
+add-end : tie.Need-add-end Inv-loop μ-loop
+add-end c = omega (arith, kept-took (c .before .before .before .loop .inv) (c .before .if1 .taken) (c .least .ensures) refl)
 
-add-taken : tie.Need-add-taken Inv-loop μ-loop
-add-taken c = omega (arith, kept-took (c .before .before .before .before .before .before .before .loop .inv) (c .before .before .before .before .before .if1 .taken) (c .before .before .before .before .least .ensures) (c .before .before .copy-part .ensures))
+add-full : tie.Need-add-full Inv-loop μ-loop
+add-full c = omega (arith, kept-room (c .before .before .before .loop .inv) (c .before .if1 .taken) (c .least .ensures) refl)
 
-add-have : tie.Need-add-have Inv-loop μ-loop
-add-have c = omega (arith, c .before .before .before .before .before .before .before .loop .inv .fits, c .before .before .before .before .least .ensures)
+sub-copy : tie.Need-sub-copy Inv-loop μ-loop
+sub-copy c = omega arith
+
+part-copy-start : tie.Need-part-copy-start Inv-loop μ-loop
+part-copy-start c = omega arith
+
+part-copy-end : tie.Need-part-copy-end Inv-loop μ-loop
+part-copy-end c = kept-took (c .before .before .before .loop .inv) (c .before .if1 .taken) (c .least .ensures) refl
+
+sub-copy-2 : tie.Need-sub-copy-2 Inv-loop μ-loop
+sub-copy-2 c = omega arith
+
+part-copy-start-2 : tie.Need-part-copy-start-2 Inv-loop μ-loop
+part-copy-start-2 c = omega arith
+
+part-copy-end-2 : tie.Need-part-copy-end-2 Inv-loop μ-loop
+part-copy-end-2 c = kept-room (c .before .before .before .before .loop .inv) (c .before .before .if1 .taken) (c .before .least .ensures) refl
+
+copy-requires : tie.Need-copy-requires Inv-loop μ-loop
+copy-requires c κs = search needs
 
 sub-left : tie.Need-sub-left Inv-loop μ-loop
-sub-left c = omega (arith, c .before .before .before .before .least .ensures)
+sub-left c = omega (arith, c .before .before .before .before .before .least .ensures)
 
 went-requires : tie.Need-went-requires Inv-loop μ-loop
 went-requires c κs = search needs
 
 same-length : tie.Need-same-length Inv-loop μ-loop
-same-length c = c .before .before .before .before .copy-part .kept .1 .1 .1 .0 ∙ c .before .before .before .before .before .before .before .before .before .loop .inv .b-long
+same-length c = kept-long (c .before .before .before .before .before .before .before .before .before .before .loop .inv) (c .before .before .before .before .before .before .before .before .if1 .taken) (c .before .before .before .before .before .before .before .least .ensures) (copied (c .before .before .before .before))
 
 same-length-2 : tie.Need-same-length-2 Inv-loop μ-loop
-same-length-2 c = c .before .before .before .before .before .before .before .before .before .loop .inv .o-long
+same-length-2 c = c .before .before .before .before .before .before .before .before .before .before .loop .inv .o-long
 
 returns : tie.Need-returns Inv-loop μ-loop
-returns c = let l = c .before .if2 .taken in kept-payload (kept-part (c .before .before .before .before .before .before .before .before .before .loop .inv) (c .before .before .before .before .before .before .before .if1 .taken) (c .before .before .before .before .before .before .least .ensures) (c .before .before .before .before .copy-part .ensures) l) (c .went .ensures) l (λ f. absurd (omega (arith, kept-all (c .before .before .before .before .before .before .before .before .before .loop .inv) (c .before .before .before .before .before .before .before .if1 .taken) (c .before .before .before .before .before .before .least .ensures) (c .before .before .before .before .copy-part .ensures) l)))
+returns c = let l = c .before .if2 .taken in kept-payload (kept-part (c .before .before .before .before .before .before .before .before .before .before .loop .inv) (c .before .before .before .before .before .before .before .before .if1 .taken) (c .before .before .before .before .before .before .before .least .ensures) (copied (c .before .before .before .before)) l) (c .went .ensures) l (λ f. absurd (omega (arith, kept-all (c .before .before .before .before .before .before .before .before .before .before .loop .inv) (c .before .before .before .before .before .before .before .before .if1 .taken) (c .before .before .before .before .before .before .before .least .ensures) (copied (c .before .before .before .before)) l)))
 
 next-line-requires : tie.Need-next-line-requires Inv-loop μ-loop
 next-line-requires c κs = search needs
 
 slice-reshare-prefix-put-line : tie.Need-slice-reshare-prefix-put-line Inv-loop μ-loop
-slice-reshare-prefix-put-line c = omega (arith, kept-room (c .before .before .before .before .before .before .before .before .before .before .loop .inv) (c .before .before .before .before .before .before .before .before .if1 .taken) (c .before .before .before .before .before .before .before .least .ensures) (c .before .before .before .before .before .copy-part .ensures), c .before .before .before .before .before .copy-part .kept .1 .1 .1 .0)
+slice-reshare-prefix-put-line c = omega (arith, kept-room (c .before .before .before .before .before .before .before .before .before .before .before .loop .inv) (c .before .before .before .before .before .before .before .before .before .if1 .taken) (c .before .before .before .before .before .before .before .before .least .ensures) (copied (c .before .before .before .before .before)), kept-long (c .before .before .before .before .before .before .before .before .before .before .before .loop .inv) (c .before .before .before .before .before .before .before .before .before .if1 .taken) (c .before .before .before .before .before .before .before .before .least .ensures) (copied (c .before .before .before .before .before)), c .before .before .before .before .before .before .before .before .before .before .before .loop .inv .b-long)
 
 slice-aggregate-put-line : tie.Need-slice-aggregate-put-line Inv-loop μ-loop
-slice-aggregate-put-line c = sym (length-take-le _ _ (omega (arith, kept-room (c .before .before .before .before .before .before .before .before .before .before .before .loop .inv) (c .before .before .before .before .before .before .before .before .before .if1 .taken) (c .before .before .before .before .before .before .before .before .least .ensures) (c .before .before .before .before .before .before .copy-part .ensures), c .before .before .before .before .before .before .copy-part .kept .1 .1 .1 .0)))
+slice-aggregate-put-line c = sym (length-take-le _ _ (omega (arith, kept-room (c .before .before .before .before .before .before .before .before .before .before .before .before .loop .inv) (c .before .before .before .before .before .before .before .before .before .before .if1 .taken) (c .before .before .before .before .before .before .before .before .before .least .ensures) (copied (c .before .before .before .before .before .before)), kept-long (c .before .before .before .before .before .before .before .before .before .before .before .before .loop .inv) (c .before .before .before .before .before .before .before .before .before .before .if1 .taken) (c .before .before .before .before .before .before .before .before .before .least .ensures) (copied (c .before .before .before .before .before .before)), c .before .before .before .before .before .before .before .before .before .before .before .before .loop .inv .b-long)))
 
 put-line-requires : tie.Need-put-line-requires Inv-loop μ-loop
-put-line-requires c κs = c .before .before .before .before .before .before .before .before .before .before .loop-test .taken
+put-line-requires c κs = c .before .before .before .before .before .before .before .before .before .before .before .loop-test .taken
 
 loop-less : tie.Need-loop-less Inv-loop μ-loop
-loop-less c = omega (arith, kept-took (c .before .before .before .before .before .before .before .before .before .before .before .before .before .before .loop .inv) (c .before .before .before .before .before .before .before .before .before .before .before .before .if1 .taken) (c .before .before .before .before .before .before .before .before .before .before .before .least .ensures) (c .before .before .before .before .before .before .before .before .before .copy-part .ensures), c .before .before .before .before .before .before .before .before .before .before .before .before .if1 .taken, c .before .before .before .before .before .before .if2 .left)
+loop-less c = omega (arith, kept-took (c .before .before .before .before .before .before .before .before .before .before .before .before .before .before .before .loop .inv) (c .before .before .before .before .before .before .before .before .before .before .before .before .before .if1 .taken) (c .before .before .before .before .before .before .before .before .before .before .before .before .least .ensures) (copied (c .before .before .before .before .before .before .before .before .before)), c .before .before .before .before .before .before .before .before .before .before .before .before .before .if1 .taken, c .before .before .before .before .before .before .if2 .left)
 
 loop-again : tie.Need-loop-again Inv-loop μ-loop
-loop-again c = kept-whole (c .before .before .before .before .before .before .before .before .before .before .before .before .before .before .loop .inv) (c .before .before .before .before .before .before .before .before .before .before .before .before .if1 .taken) (c .before .before .before .before .before .before .before .before .before .before .before .least .ensures) (c .before .before .before .before .before .before .before .before .before .copy-part .ensures) (c .before .before .before .before .before .before .if2 .left) (c .before .before .before .before .before .next-line .ensures) (c .before .before .before .before .before .before .before .before .before .before .before .before .before .loop-test .taken) (c .before .before .put-line .ensures)
+loop-again c = kept-whole (c .before .before .before .before .before .before .before .before .before .before .before .before .before .before .before .loop .inv) (c .before .before .before .before .before .before .before .before .before .before .before .before .before .if1 .taken) (c .before .before .before .before .before .before .before .before .before .before .before .before .least .ensures) (copied (c .before .before .before .before .before .before .before .before .before)) (c .before .before .before .before .before .before .if2 .left) (c .before .before .before .before .before .next-line .ensures) (c .before .before .before .before .before .before .before .before .before .before .before .before .before .before .loop-test .taken) (c .before .before .put-line .ensures)
 
 went-requires-2 : tie.Need-went-requires-2 Inv-loop μ-loop
 went-requires-2 c κs = search needs
@@ -107,8 +133,8 @@ returns-3 c = kept-bad (c .before .before .before .before .before .before .befor
 enum-known-group : tie.Need-enum-known-group Inv-loop μ-loop
 enum-known-group c = search needs
 
-add-taken-2 : tie.Need-add-taken-2 Inv-loop μ-loop
-add-taken-2 c = omega (arith, c .before .before .before .before .before .before .before .before .loop .inv .took, c .before .before .before .before .before .if3 .left)
+add-taken : tie.Need-add-taken Inv-loop μ-loop
+add-taken c = omega (arith, c .before .before .before .before .before .before .before .before .loop .inv .took, c .before .before .before .before .before .if3 .left)
 
 add-groups : tie.Need-add-groups Inv-loop μ-loop
 add-groups c = omega (arith, kept-few (c .before .before .before .before .before .before .before .before .loop .inv) (c .before .before .before .before .before .before .if1 .left) (omega (arith, c .before .before .before .before .before .before .before .before .loop .inv .took, c .before .before .before .before .before .if3 .left)) (c .before .before .before .step .ensures) _ (c .before .group .given .1))
@@ -122,8 +148,8 @@ loop-again-2 c = kept-more (c .before .before .before .before .before .before .b
 enum-known-group-2 : tie.Need-enum-known-group-2 Inv-loop μ-loop
 enum-known-group-2 c = search needs
 
-add-taken-3 : tie.Need-add-taken-3 Inv-loop μ-loop
-add-taken-3 c = omega (arith, c .before .before .before .before .before .before .before .before .loop .inv .took, c .before .before .before .before .before .if3 .left)
+add-taken-2 : tie.Need-add-taken-2 Inv-loop μ-loop
+add-taken-2 c = omega (arith, c .before .before .before .before .before .before .before .before .loop .inv .took, c .before .before .before .before .before .if3 .left)
 
 next-line-requires-2 : tie.Need-next-line-requires-2 Inv-loop μ-loop
 next-line-requires-2 c κs = search needs
@@ -183,9 +209,15 @@ go-on-spec =
     add-loop
     sub-least
     least-requires
-    copy-part-requires
-    add-taken
-    add-have
+    add-end
+    add-full
+    sub-copy
+    part-copy-start
+    part-copy-end
+    sub-copy-2
+    part-copy-start-2
+    part-copy-end-2
+    copy-requires
     sub-left
     went-requires
     same-length
@@ -209,12 +241,12 @@ go-on-spec =
     same-length-6
     returns-3
     enum-known-group
-    add-taken-2
+    add-taken
     add-groups
     loop-less-2
     loop-again-2
     enum-known-group-2
-    add-taken-3
+    add-taken-2
     next-line-requires-2
     slice-reshare-prefix-put-line-2
     slice-aggregate-put-line-2

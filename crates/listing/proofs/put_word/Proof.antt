@@ -1,20 +1,31 @@
-use mathlib.Core.Path.{refl, _∙_}
-use Rattle.listing.proofs.Puts.{put-paste}
+use mathlib.Core.Path.{refl}
+use Rattle.octets.proofs.Parts.{into-part}
 use borrow.Author.Needs.{needs}
 use Rattle.listing.proofs.put_word.Statement.{statement}
 use Rattle.listing.proofs.put_word.Tie as tie
 
-copy-part-requires : tie.Need-copy-part-requires
-copy-part-requires c κs = search needs
+add-end : tie.Need-add-end
+add-end c = search needs
 
-add-result : tie.Need-add-result
-add-result c = search needs
+sub-copy : tie.Need-sub-copy
+sub-copy c = search needs
+
+part-copy-start : tie.Need-part-copy-start
+part-copy-start c = search needs
+
+part-copy-end : tie.Need-part-copy-end
+part-copy-end c = search needs
+
+copy-requires : tie.Need-copy-requires
+copy-requires c κs = search needs
 
 same-length : tie.Need-same-length
 same-length c = search needs
 
 returns : tie.Need-returns
-returns c = (c .before .before .copy-part .ensures ∙ put-paste (c .before .before .before .before .before .before .args .out .now) (c .before .before .before .before .before .before .args .at) (c .before .before .before .before .before .before .args .word .now), refl)
+returns c = let z = c .before .before .before .before .before .before in (into-part (z .args .word .now) (z .args .out .now) (z .args .at) _ refl (z .pre) (c .before .before .copy .ensures), refl)
 
 pub put-word-spec : {M : Type 1} → statement M
-put-word-spec = tie.close (tie.spec copy-part-requires add-result same-length returns)
+put-word-spec =
+    tie.close
+    (tie.spec add-end sub-copy part-copy-start part-copy-end copy-requires same-length returns)

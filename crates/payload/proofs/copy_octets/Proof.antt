@@ -35,7 +35,7 @@ same-length : tie.Need-same-length
 same-length c = search needs
 
 returns : tie.Need-returns
-returns c = part-copied _ _ _ _ _ _ _ refl refl (c .before .before .before .before .before .before .before .pre .0) (c .before .before .before .before .before .before .before .pre .1) (c .before .before .copy .ensures) refl
+returns c = part-copied _ _ _ _ _ _ _ refl refl (c .before .before .before .before .before .before .before .pre .0) (c .before .before .before .before .before .before .before .pre .1) (c .before .before .copy .ensures)
 
 pub copy-octets-spec : {M : Type 1} → statement M
 copy-octets-spec =
