@@ -3,7 +3,6 @@ pub mod SettingsLaws
 pub mod Words
 pub mod NumberLaws
 pub mod Stores
-pub mod Semicolons
 pub mod RateLaws
 pub mod WriteLaws
 pub mod ReadLaws

@@ -1,18 +1,18 @@
 -- Decimal numbers.
-use mathlib.Core.Path.{_≡_, refl, sym, ap}
+use mathlib.Core.Path.{_≡_, refl, sym, ap, _∙_}
 use mathlib.Core.Bool.{Bool, true, cond}
-use mathlib.Core.List.{List, [], _∷_}
-use Prim.Native.Nat.{ℕ, suc, _+_, _*_, _/_, _%_, _≤_, _<_}
+use mathlib.Core.List.{List, [], _∷_, _++_, append-nil}
+use Prim.Native.Nat.{ℕ, suc, _+_, _-_, _*_, _/_, _%_, _≤_, _<_}
 use native.Mathlib.Omega.{arith}
 use native.Mathlib.Numerals.{add-one}
 use lib.Dec.{eqb, ltb}
-use lib.ListN.{length, getD, set, drop}
+use lib.ListN.{length, getD, set, drop, length-drop}
 use lib.Seq.{drop-cons, drop-length}
 use native.Mathlib.Decide.{ℕ-discrete}
 use borrow.Author.Tests.{lt-ltb, le-ltb, eq-eqb, ne-eqb, eqb-true}
 use mathlib.Core.Logic.{_⊎_, inl, inr}
-use Rattle.fmtp.specs.Text.{decimal}
-use Rattle.fmtp.specs.Reader.{digit, countOn, numberOf}
+use Rattle.fmtp.specs.Text.{decimal, semicolon}
+use Rattle.fmtp.specs.Reader.{digit, countOn, numberAt, lastNumber}
 use Rattle.fmtp.specs.Writer.{Put}
 use Rattle.fmtp.specs.Settings.{IsTcmax}
 use Rattle.fmtp.proofs.Flags.{below-or, everyBelow, every-below}
@@ -33,39 +33,38 @@ decimal-three n l = simp (le-ltb n 10 (omega arith), le-ltb n 100 l)
 
 -- ---- the loop that counts
 
-pub record Counted (t : List ℕ) (v i : ℕ) : Type 0 where
+pub record Counted (t : List ℕ) (n v i : ℕ) : Type 0 where
   pub upto : i ≤ length t
   pub small : v ≤ 255
-  pub rest : countOn v (drop i t) ≡ numberOf t
+  pub rest : countOn v (drop i t) ≡ n
 
-module _ (t : List ℕ) where
-  pub number-empty : length t ≡ 0 → 0 ≡ numberOf t
-  unfolding numberOf
-  number-empty e = simp (eq-eqb (length t) 0 e)
+pub counted-start : (t : List ℕ) (at : ℕ) → at ≤ length t → Counted t (numberAt (drop at t)) 0 at
+unfolding numberAt
+counted-start t at l = record { upto = l; small = omega arith; rest = refl }
 
-  pub number-zero : (length t ≡ 0 → ⊥) → getD t 0 0 ≡ 48 → 0 ≡ numberOf t
-  unfolding numberOf
-  number-zero n e = simp (ne-eqb (length t) 0 n, eq-eqb (getD t 0 0) 48 e)
-
-  pub counted-start : (length t ≡ 0 → ⊥) → (getD t 0 0 ≡ 48 → ⊥) → Counted t 0 0
-  unfolding numberOf
-  counted-start n e = record { upto = omega arith; small = omega arith; rest = simp (ne-eqb (length t) 0 n, ne-eqb (getD t 0 0) 48 e) }
-
-  module _ (v i d : ℕ) (h : Counted t v i) (lt : i < length t) (e : d ≡ digit (getD t i 0)) where
-    next : cond (ltb 9 d) 0 (cond (ltb 255 (v * 10 + d)) 0 (countOn (v * 10 + d) (drop (suc i) t))) ≡ numberOf t
+module _ (t : List ℕ) (n v i : ℕ) (h : Counted t n v i) where
+  module _ (d : ℕ) (lt : i < length t) (e : d ≡ digit (getD t i 0)) where
+    next : cond (ltb 9 d) v (cond (eqb (v * 10 + d) 0) 0 (cond (ltb 255 (v * 10 + d)) 0 (countOn (v * 10 + d) (drop (suc i) t)))) ≡ n
     next = rw e (rw (drop-cons t i 0 lt) at (h .rest))
 
-    pub counted-none : 9 < d → 0 ≡ numberOf t
-    counted-none l = simp (lt-ltb 9 d l) at next
+    pub counted-behind : 9 < d → v ≡ n
+    counted-behind l = simp (lt-ltb 9 d l) at next
 
-    pub counted-over : d ≤ 9 → 255 < v * 10 + d → 0 ≡ numberOf t
-    counted-over l m = simp (le-ltb 9 d l, lt-ltb 255 (v * 10 + d) m) at next
+    pub counted-zero : d ≤ 9 → v * 10 + d ≡ 0 → 0 ≡ n
+    counted-zero l z = simp (le-ltb 9 d l, eq-eqb (v * 10 + d) 0 z) at next
 
-    pub counted-next : d ≤ 9 → v * 10 + d ≤ 255 → Counted t (v * 10 + d) (i + 1)
-    counted-next l m = record { upto = omega arith; small = m; rest = rw (add-one i) (simp (le-ltb 9 d l, le-ltb 255 (v * 10 + d) m) at next) }
+    pub counted-over : d ≤ 9 → (v * 10 + d ≡ 0 → ⊥) → 255 < v * 10 + d → 0 ≡ n
+    counted-over l z m = simp (le-ltb 9 d l, ne-eqb (v * 10 + d) 0 z, lt-ltb 255 (v * 10 + d) m) at next
 
-  pub counted-end : (v i : ℕ) → Counted t v i → length t ≤ i → v ≡ numberOf t
-  counted-end v i h l =
+    pub counted-next : d ≤ 9 → (v * 10 + d ≡ 0 → ⊥) → v * 10 + d ≤ 255 → Counted t n (v * 10 + d) (i + 1)
+    counted-next l z m = record {
+      upto = omega arith;
+      small = m;
+      rest = rw (add-one i) (simp (le-ltb 9 d l, ne-eqb (v * 10 + d) 0 z, le-ltb 255 (v * 10 + d) m) at next);
+    }
+
+  pub counted-end : length t ≤ i → v ≡ n
+  counted-end l =
       let e : i ≡ length t = omega (arith, h .upto) in
       rw (e, drop-length t) at (h .rest)
 
@@ -98,74 +97,158 @@ put-three l at n h m =
 
 -- ---- reading a number's text gives the number, and only its text does
 
-abbrev numberTest : ℕ → Bool
-numberTest n = cond (eqb n 0) true (eqb (numberOf (decimal n)) n)
+abbrev wholeTest : ℕ → Bool
+wholeTest n = cond (eqb n 0) true (eqb (numberAt (decimal n)) n)
 
-number-table : everyBelow numberTest 256 ≡ true
-unfolding numberOf digit decimal
-number-table = refl
+abbrev joinedTest : List ℕ → ℕ → Bool
+joinedTest u n = cond (eqb n 0) true (eqb (numberAt (decimal n ++ (semicolon ∷ u))) n)
 
-pub number-read : (n : ℕ) → IsTcmax n → numberOf (decimal n) ≡ n
-number-read n i =
-    let p = every-below numberTest 256 number-table n (omega (arith, i .most)) in
-    eqb-true (numberOf (decimal n)) n (simp (ne-eqb n 0 (λ e. omega (arith, i .least))) at p)
+whole-table : everyBelow wholeTest 256 ≡ true
+unfolding numberAt digit decimal
+whole-table = refl
+
+joined-table : (u : List ℕ) → everyBelow (joinedTest u) 256 ≡ true
+unfolding numberAt digit decimal
+joined-table u = refl
+
+module _ {n : ℕ} (i : IsTcmax n) where
+  tested : (f : ℕ → Bool) (x : ℕ) → everyBelow f 256 ≡ true → f n ≡ cond (eqb n 0) true (eqb x n) → x ≡ n
+  tested f x h e =
+      let p = sym e ∙ every-below f 256 h n (omega (arith, i .most)) in
+      eqb-true x n (simp (ne-eqb n 0 (λ e. omega (arith, i .least))) at p)
+
+  -- where the text ends
+  pub number-whole : numberAt (decimal n) ≡ n
+  number-whole = tested wholeTest (numberAt (decimal n)) whole-table refl
+
+  -- where a `;` stands behind it
+  pub number-joined : (u : List ℕ) → numberAt (decimal n ++ (semicolon ∷ u)) ≡ n
+  number-joined u = tested (joinedTest u) (numberAt (decimal n ++ (semicolon ∷ u))) (joined-table u) refl
 
 digit-is : (x : ℕ) → digit x ≤ 9 → x ≡ 48 + digit x
 unfolding digit
-digit-is x h = go (below-or x 48) (below-or 57 x)
+digit-is x h = go (below-or x 48)
   where
-    go : (x < 48) ⊎ (48 ≤ x) → (57 < x) ⊎ (x ≤ 57) → x ≡ 48 + digit x
-    go (inl a) b = let f = simp (lt-ltb x 48 a) at h in absurd (omega (arith, f))
-    go (inr a) (inl b) = let f = simp (le-ltb x 48 a, lt-ltb 57 x b) at h in absurd (omega (arith, f))
-    go (inr a) (inr b) = simp (le-ltb x 48 a, le-ltb 57 x b) (omega arith)
+    go : (x < 48) ⊎ (48 ≤ x) → x ≡ 48 + digit x
+    go (inl a) = let f = simp (lt-ltb x 48 a) at h in absurd (omega (arith, f))
+    go (inr a) = simp (le-ltb x 48 a) (omega arith)
+
+-- a text starts with a number's text
+pub record Numbered (t : List ℕ) (n : ℕ) : Type 0 where
+  pub number : IsTcmax n
+  pub text : t ≡ decimal n ++ drop (length (decimal n)) t
 
 record Step (v x : ℕ) (xs : List ℕ) (n : ℕ) : Type 0 where
   nine : digit x ≤ 9
   octet : x ≡ 48 + digit x
+  least : 1 ≤ v * 10 + digit x
   small : v * 10 + digit x ≤ 255
   rest : countOn (v * 10 + digit x) xs ≡ n
 
-count-step : (v x : ℕ) (xs : List ℕ) (n : ℕ) → (n ≡ 0 → ⊥) → countOn v (x ∷ xs) ≡ n → Step v x xs n
-count-step v x xs n z e = go (below-or 9 (digit x)) (below-or 255 (v * 10 + digit x))
+count-step : (v x : ℕ) (xs : List ℕ) (n : ℕ) → (n ≡ 0 → ⊥) → countOn v (x ∷ xs) ≡ n → (v ≡ n) ⊎ Step v x xs n
+count-step v x xs n z e = go (below-or 9 (digit x)) (ℕ-discrete (v * 10 + digit x) 0) (below-or 255 (v * 10 + digit x))
   where
-    go : (9 < digit x) ⊎ (digit x ≤ 9) → (255 < v * 10 + digit x) ⊎ (v * 10 + digit x ≤ 255) → Step v x xs n
-    go (inl a) b = absurd (z (sym (simp (lt-ltb 9 (digit x) a) at e)))
-    go (inr a) (inl b) = absurd (z (sym (simp (le-ltb 9 (digit x) a, lt-ltb 255 (v * 10 + digit x) b) at e)))
-    go (inr a) (inr b) = record { nine = a; octet = digit-is x a; small = b; rest = simp (le-ltb 9 (digit x) a, le-ltb 255 (v * 10 + digit x) b) at e }
+    go : (9 < digit x) ⊎ (digit x ≤ 9) → Dec (v * 10 + digit x ≡ 0) → (255 < v * 10 + digit x) ⊎ (v * 10 + digit x ≤ 255) → (v ≡ n) ⊎ Step v x xs n
+    go (inl a) y b = inl (simp (lt-ltb 9 (digit x) a) at e)
+    go (inr a) (yes y) b = absurd (z (sym (simp (le-ltb 9 (digit x) a, eq-eqb (v * 10 + digit x) 0 y) at e)))
+    go (inr a) (no y) (inl b) = absurd (z (sym (simp (le-ltb 9 (digit x) a, ne-eqb (v * 10 + digit x) 0 y, lt-ltb 255 (v * 10 + digit x) b) at e)))
+    go (inr a) (no y) (inr b) =
+        inr
+        (record {
+          nine = a;
+          octet = digit-is x a;
+          least = omega arith;
+          small = b;
+          rest = simp (le-ltb 9 (digit x) a, ne-eqb (v * 10 + digit x) 0 y, le-ltb 255 (v * 10 + digit x) b) at e;
+        })
 
-number-cons : (x : ℕ) (xs : List ℕ) (n : ℕ) → (n ≡ 0 → ⊥) → numberOf (x ∷ xs) ≡ n → (x ≡ 48 → ⊥) × (countOn 0 (x ∷ xs) ≡ n)
-unfolding numberOf
-number-cons x xs n z e = go (ℕ-discrete x 48)
+one-digit : (n x : ℕ) (t : List ℕ) → 1 ≤ n → n < 10 → x ≡ 48 + n → Numbered (x ∷ t) n
+one-digit n x t l h e = record { number = record { least = l; most = omega arith }; text = rw (decimal-one n h) (cc) }
+
+two-digits : (n x y : ℕ) (t : List ℕ) → 10 ≤ n → n < 100 → x ≡ 48 + n / 10 → y ≡ 48 + n % 10 → Numbered (x ∷ y ∷ t) n
+two-digits n x y t l h e f = record { number = record { least = omega arith; most = omega arith }; text = rw (decimal-two n l h) (cc) }
+
+three-digits : (n x y w : ℕ) (t : List ℕ) → 100 ≤ n → n ≤ 255 → x ≡ 48 + n / 100 → y ≡ 48 + n / 10 % 10 → w ≡ 48 + n % 10 → Numbered (x ∷ y ∷ w ∷ t) n
+three-digits n x y w t l h e f g = record { number = record { least = omega arith; most = h }; text = rw (decimal-three n l) (cc) }
+
+module _ (n : ℕ) (z : n ≡ 0 → ⊥) (x : ℕ) where
+  first-only : (t : List ℕ) → Step 0 x t n → 0 * 10 + digit x ≡ n → Numbered (x ∷ t) n
+  first-only t s e = one-digit n x t (omega arith) (omega (arith, s .nine)) (omega (arith, s .octet))
+
+  module _ (y : ℕ) where
+    second-only : (t : List ℕ) → Step 0 x (y ∷ t) n → Step (0 * 10 + digit x) y t n → (0 * 10 + digit x) * 10 + digit y ≡ n → Numbered (x ∷ y ∷ t) n
+    second-only t s r e =
+        two-digits n x y t (omega (arith, s .least, r .nine)) (omega (arith, s .nine, r .nine)) (omega (arith, s .octet, r .nine)) (omega (arith, r .octet, r .nine))
+
+    module _ (w : ℕ) where
+      third-only : (t : List ℕ) → Step 0 x (y ∷ w ∷ t) n → Step (0 * 10 + digit x) y (w ∷ t) n → Step ((0 * 10 + digit x) * 10 + digit y) w t n
+          → ((0 * 10 + digit x) * 10 + digit y) * 10 + digit w ≡ n → Numbered (x ∷ y ∷ w ∷ t) n
+      third-only t s r q e =
+          three-digits n x y w t (omega (arith, s .least)) (omega (arith, q .small)) (omega (arith, s .octet, r .nine, q .nine)) (omega (arith, r .octet, r .nine, q .nine)) (omega (arith, q .octet, q .nine))
+
+      third : (t : List ℕ) → Step 0 x (y ∷ w ∷ t) n → Step (0 * 10 + digit x) y (w ∷ t) n → Step ((0 * 10 + digit x) * 10 + digit y) w t n → Numbered (x ∷ y ∷ w ∷ t) n
+      third [] s r q = third-only [] s r q (q .rest)
+      third (u ∷ t) s r q = go (count-step (((0 * 10 + digit x) * 10 + digit y) * 10 + digit w) u t n z (q .rest))
+        where
+          go : (((0 * 10 + digit x) * 10 + digit y) * 10 + digit w ≡ n) ⊎ Step (((0 * 10 + digit x) * 10 + digit y) * 10 + digit w) u t n → Numbered (x ∷ y ∷ w ∷ u ∷ t) n
+          go (inl e) = third-only (u ∷ t) s r q e
+          go (inr p) = absurd (omega (arith, s .least, p .small))
+
+    second : (t : List ℕ) → Step 0 x (y ∷ t) n → Step (0 * 10 + digit x) y t n → Numbered (x ∷ y ∷ t) n
+    second [] s r = second-only [] s r (r .rest)
+    second (w ∷ t) s r = go (count-step ((0 * 10 + digit x) * 10 + digit y) w t n z (r .rest))
+      where
+        go : ((0 * 10 + digit x) * 10 + digit y ≡ n) ⊎ Step ((0 * 10 + digit x) * 10 + digit y) w t n → Numbered (x ∷ y ∷ w ∷ t) n
+        go (inl e) = second-only (w ∷ t) s r e
+        go (inr q) = third w t s r q
+
+  first : (t : List ℕ) → Step 0 x t n → Numbered (x ∷ t) n
+  first [] s = first-only [] s (s .rest)
+  first (y ∷ t) s = go (count-step (0 * 10 + digit x) y t n z (s .rest))
+    where
+      go : (0 * 10 + digit x ≡ n) ⊎ Step (0 * 10 + digit x) y t n → Numbered (x ∷ y ∷ t) n
+      go (inl e) = first-only (y ∷ t) s e
+      go (inr r) = second y t s r
+
+pub number-found : (t : List ℕ) (n : ℕ) → numberAt t ≡ n → (n ≡ 0 → ⊥) → Numbered t n
+unfolding numberAt
+number-found [] n e z = absurd (z (sym e))
+number-found (x ∷ t) n e z = go (count-step 0 x t n z e)
   where
-    go : Dec (x ≡ 48) → (x ≡ 48 → ⊥) × (countOn 0 (x ∷ xs) ≡ n)
-    go (yes f) = absurd (z (sym (simp (ne-eqb (suc (length xs)) 0 (λ g. omega arith), eq-eqb x 48 f) at e)))
-    go (no f) = (f, simp (ne-eqb (suc (length xs)) 0 (λ g. omega arith), ne-eqb x 48 f) at e)
+    go : (0 ≡ n) ⊎ Step 0 x t n → Numbered (x ∷ t) n
+    go (inl f) = absurd (z (sym f))
+    go (inr s) = first n z x t s
 
-counted-digits : (n : ℕ) → (n ≡ 0 → ⊥) → (x : ℕ) (xs : List ℕ) → (x ≡ 48 → ⊥) → Step 0 x xs n → IsTcmax n × ((x ∷ xs) ≡ decimal n)
-counted-digits n z x [] f s =
-    let e : x ≡ 48 + n = omega (arith, s .octet, s .rest) in
-    (record { least = omega arith; most = omega (arith, s .small, s .rest) }, rw (decimal-one n (omega (arith, s .nine, s .rest))) (cc))
-counted-digits n z x (y ∷ []) f s =
-    let r = count-step (0 * 10 + digit x) y [] n z (s .rest) in
-    let a : x ≡ 48 + n / 10 = omega (arith, s .octet, r .nine, r .rest) in
-    let b : y ≡ 48 + n % 10 = omega (arith, r .octet, r .nine, r .rest) in
-    (record { least = omega arith; most = omega (arith, r .small, r .rest) }, rw (decimal-two n (omega (arith, s .octet, r .rest)) (omega (arith, s .nine, r .nine, r .rest))) (cc))
-counted-digits n z x (y ∷ w ∷ []) f s =
-    let r = count-step (0 * 10 + digit x) y (w ∷ []) n z (s .rest) in
-    let q = count-step ((0 * 10 + digit x) * 10 + digit y) w [] n z (r .rest) in
-    let a : x ≡ 48 + n / 100 = omega (arith, s .octet, r .nine, q .nine, q .rest) in
-    let b : y ≡ 48 + n / 10 % 10 = omega (arith, r .octet, r .nine, q .nine, q .rest) in
-    let c : w ≡ 48 + n % 10 = omega (arith, q .octet, q .nine, q .rest) in
-    (record { least = omega arith; most = omega (arith, q .small, q .rest) }, rw (decimal-three n (omega (arith, s .octet, q .rest))) (cc))
-counted-digits n z x (y ∷ w ∷ u ∷ xs) f s =
-    let r = count-step (0 * 10 + digit x) y (w ∷ u ∷ xs) n z (s .rest) in
-    let q = count-step ((0 * 10 + digit x) * 10 + digit y) w (u ∷ xs) n z (r .rest) in
-    let p = count-step (((0 * 10 + digit x) * 10 + digit y) * 10 + digit w) u xs n z (q .rest) in
-    absurd (omega (arith, s .octet, p .small))
+-- ---- a number that ends the text
 
-pub number-gives : (t : List ℕ) (n : ℕ) → (n ≡ 0 → ⊥) → numberOf t ≡ n → IsTcmax n × (t ≡ decimal n)
-unfolding numberOf
-number-gives [] n z e = absurd (z (sym e))
-number-gives (x ∷ xs) n z e =
-    let p = number-cons x xs n z e in
-    counted-digits n z x xs (p .0) (count-step 0 x xs n z (p .1))
+module _ (t : List ℕ) where
+  last-short : (length t ≡ length (decimal (numberAt t)) → ⊥) → 0 ≡ lastNumber t
+  unfolding lastNumber
+  last-short e = simp (ne-eqb (length t) (length (decimal (numberAt t))) e)
+
+  last-whole : length t ≡ length (decimal (numberAt t)) → numberAt t ≡ lastNumber t
+  unfolding lastNumber
+  last-whole e = simp (eq-eqb (length t) (length (decimal (numberAt t))) e)
+
+  pub last-found : (n : ℕ) → lastNumber t ≡ n → (n ≡ 0 → ⊥) → IsTcmax n × (t ≡ decimal n)
+  last-found n e z = go (ℕ-discrete (length t) (length (decimal (numberAt t))))
+    where
+      go : Dec (length t ≡ length (decimal (numberAt t))) → IsTcmax n × (t ≡ decimal n)
+      go (no f) = absurd (z (sym e ∙ sym (last-short f)))
+      go (yes f) =
+          let k : numberAt t ≡ n = last-whole f ∙ e in
+          let h = number-found t n k z in
+          let g : length t ≡ length (decimal n) = f ∙ ap (λ (m : ℕ). length (decimal m)) k in
+          (h .number, h .text ∙ rw (← g, drop-length t) (append-nil (decimal n)))
+
+pub last-read : {n : ℕ} → IsTcmax n → lastNumber (decimal n) ≡ n
+last-read {n} i = sym (last-whole (decimal n) (ap (λ (m : ℕ). length (decimal m)) (sym (number-whole i)))) ∙ number-whole i
+
+-- ---- the code's steps
+
+module _ (t : List ℕ) (at n k : ℕ) (lt : at ≤ length t) (e : n ≡ numberAt (drop at t)) (f : k ≡ length (decimal n)) where
+  pub last-other : (length t - at ≡ k → ⊥) → 0 ≡ lastNumber (drop at t)
+  last-other h = last-short (drop at t) (λ g. h (sym (length-drop at t) ∙ g ∙ ap (λ (m : ℕ). length (decimal m)) (sym e) ∙ sym f))
+
+  pub last-right : length t - at ≡ k → n ≡ lastNumber (drop at t)
+  last-right h = e ∙ last-whole (drop at t) (length-drop at t ∙ h ∙ f ∙ ap (λ (m : ℕ). length (decimal m)) e)

@@ -1,25 +1,22 @@
 -- Rates as text: each rate's text, what stands at a text's start, and lists of rates.
 use mathlib.Core.Path.{_≡_, refl, sym, ap, _∙_}
 use mathlib.Core.Logic.{_⊎_, inl, inr}
-use mathlib.Core.Bool.{Bool, true, false, cond}
-use mathlib.Core.List.{List, [], _∷_, _++_, append-nil}
+use mathlib.Core.Bool.{Bool, true, false, cond, not}
+use mathlib.Core.List.{List, [], _∷_, _++_, append-assoc}
 use Prim.Native.Nat.{ℕ, _+_, _≤_, _<_}
 use native.Mathlib.Omega.{arith}
 use native.Mathlib.Decide.{ℕ-discrete}
 use native.Mathlib.Numerals.{add-one}
 use lib.ListN.{length, getD, drop}
-use lib.Seq.{drop-cons, drop-length}
-use borrow.Author.Tests.{eq-eqb, ne-eqb}
-use Rattle.fmtp.specs.declared.Rated.{Rated}
-use Rattle.fmtp.specs.declared.Rated.the-variants.{Last, More, Unrated}
-use Rattle.fmtp.specs.declared.Entry.{Entry}
-use Rattle.fmtp.specs.declared.Entry.the-variants.{Rates, Limit, Wrong}
-use Rattle.fmtp.specs.Settings.{IsRate, bps2400, bps1200, bps600, IsRates, one, two, three, ratesTest}
+use lib.Seq.{drop-cons, drop-length, drop-at}
+use lib.Dec.{eqb}
+use borrow.Author.Tests.{eq-eqb, ne-eqb, eqb-true, eqb-false, not-true}
+use Rattle.fmtp.specs.Settings.{IsRate, bps2400, bps1200, bps600, IsRates, one, two, three}
 use Rattle.fmtp.specs.Text.{lower, comma, text2400, text1200, text600, rateText, moreText, ratesText}
-use Rattle.fmtp.specs.Reader.{startsWith, rateAt, behind, rated, checked, thirdOf, secondOf, firstOf, ratesOf}
-use Rattle.fmtp.proofs.Flags.{below-or}
-use Rattle.fmtp.proofs.SettingsLaws.{rate-pos, rates-pass, rates-passed}
-use Rattle.fmtp.proofs.Words.{starts-exact}
+use Rattle.fmtp.specs.Reader.{startsWith, rateAt, moreAt, thirdAt, differTest, limitBehind, settle, fromRates}
+use Rattle.fmtp.proofs.Flags.{second-true, either-true}
+use Rattle.fmtp.proofs.SettingsLaws.{rate-pos}
+use Rattle.fmtp.proofs.Words.{fold-only, starts-exact, drop-on, split-fits}
 
 -- ---- the texts
 
@@ -68,7 +65,7 @@ more-most r = go (ℕ-discrete r 0)
 
 -- ---- the rate at a text's start
 
-pub rate-read : {r : ℕ} → IsRate r → (rest : List ℕ) → rateAt (rateText r ++ rest) ≡ r
+rate-read : {r : ℕ} → IsRate r → (rest : List ℕ) → rateAt (rateText r ++ rest) ≡ r
 unfolding rateAt rateText lower
 rate-read bps2400 rest = refl
 rate-read bps1200 rest = refl
@@ -79,14 +76,7 @@ pub record Headed (t : List ℕ) (r : ℕ) : Type 0 where
   pub rate : IsRate r
   pub text : t ≡ rateText r ++ drop (length (rateText r)) t
 
-pub headed-fits : {t : List ℕ} {r : ℕ} → Headed t r → length (rateText r) ≤ length t
-headed-fits {t} {r} h = go (below-or (length t) (length (rateText r)))
-  where
-    go : (length t < length (rateText r)) ⊎ (length (rateText r) ≤ length t) → length (rateText r) ≤ length t
-    go (inl l) = omega (arith, ap length (h .text) ∙ lib.ListN.length-append (rateText r) (drop (length (rateText r)) t))
-    go (inr l) = l
-
-pub rate-found : (t : List ℕ) (r : ℕ) → rateAt t ≡ r → (r ≡ 0 → ⊥) → Headed t r
+rate-found : (t : List ℕ) (r : ℕ) → rateAt t ≡ r → (r ≡ 0 → ⊥) → Headed t r
 unfolding rateAt rateText
 rate-found t r e n = go (startsWith text2400 t) refl (startsWith text1200 t) refl (startsWith text600 t) refl
   where
@@ -96,133 +86,222 @@ rate-found t r e n = go (startsWith text2400 t) refl (startsWith text1200 t) ref
     go false ex false ey true ez = let f : 600 ≡ r = simp (ex, ey, ez) at e in rw (← f) (record { rate = bps600; text = starts-exact text600 t refl ez })
     go false ex false ey false ez = let f : 0 ≡ r = simp (ex, ey, ez) at e in absurd (n (sym f))
 
--- ---- what stands behind it
-
-pub rated-last : {r : ℕ} → IsRate r → rated (rateText r) ≡ Last r
-unfolding behind rateAt rateText lower
-rated-last bps2400 = refl
-rated-last bps1200 = refl
-rated-last bps600 = refl
-
-pub rated-more : {r : ℕ} → IsRate r → (rest : List ℕ) → rated (rateText r ++ comma ∷ rest) ≡ More r (length (rateText r) + 1)
-unfolding behind rateAt rateText lower
-rated-more bps2400 rest = simp (ne-eqb (length (text2400 ++ comma ∷ rest)) 4 (λ e. omega arith))
-rated-more bps1200 rest = simp (ne-eqb (length (text1200 ++ comma ∷ rest)) 4 (λ e. omega arith))
-rated-more bps600 rest = simp (ne-eqb (length (text600 ++ comma ∷ rest)) 3 (λ e. omega arith))
-
-pub behind-more : {r : ℕ} → IsRate r → (rest : List ℕ) → drop (length (rateText r) + 1) (rateText r ++ comma ∷ rest) ≡ rest
-unfolding rateText
-behind-more bps2400 rest = refl
-behind-more bps1200 rest = refl
-behind-more bps600 rest = refl
-
--- what a text that is read so is
-abbrev pub Shows : List ℕ → Rated → Type 0
-Shows t (Last r) = IsRate r × (t ≡ rateText r)
-Shows t (More r n) = IsRate r × (n ≤ length t) × (t ≡ rateText r ++ comma ∷ drop n t)
-Shows t Unrated = Unit {0}
-
-behind-shows : (t : List ℕ) (r : ℕ) → Headed t r → (r ≡ 0 → ⊥) → Shows t (behind t r)
-unfolding behind
-behind-shows t r h n = go (ℕ-discrete (length t) (length (rateText r))) (ℕ-discrete (getD t (length (rateText r)) 0) comma)
+-- a text is the rate that it starts with, or nothing, and what stands behind that
+rate-split : (t : List ℕ) → t ≡ rateText (rateAt t) ++ drop (length (rateText (rateAt t))) t
+rate-split t = go (ℕ-discrete (rateAt t) 0)
   where
-    go : Dec (length t ≡ length (rateText r)) → Dec (getD t (length (rateText r)) 0 ≡ comma) → Shows t (behind t r)
-    go (yes e) y =
-        simp (ne-eqb r 0 n, eq-eqb (length t) (length (rateText r)) e)
-        (h .rate, h .text ∙ rw (← e, drop-length t) (append-nil (rateText r)))
-    go (no e) (yes y) =
-        let l : length (rateText r) < length t = omega (arith, headed-fits h) in
-        simp (ne-eqb r 0 n, ne-eqb (length t) (length (rateText r)) e, eq-eqb (getD t (length (rateText r)) 0) comma y)
-        (h .rate, omega arith, h .text ∙ ap (λ (l : List ℕ). rateText r ++ l) (drop-cons t (length (rateText r)) 0 l ∙ rw (y, add-one (length (rateText r)))))
-    go (no e) (no y) =
-        simp (ne-eqb r 0 n, ne-eqb (length t) (length (rateText r)) e, ne-eqb (getD t (length (rateText r)) 0) comma y) tt
+    go : Dec (rateAt t ≡ 0) → t ≡ rateText (rateAt t) ++ drop (length (rateText (rateAt t))) t
+    go (yes e) = rw (text-none (rateAt t) (λ f. omega arith) (λ f. omega arith) (λ f. omega arith))
+    go (no e) = rate-found t (rateAt t) refl e .text
 
-behind-none : (t : List ℕ) (r : ℕ) → r ≡ 0 → behind t r ≡ Unrated
-unfolding behind
-behind-none t r e = simp (eq-eqb r 0 e)
+-- ---- a further rate
 
-pub rated-shows : (t : List ℕ) → Shows t (rated t)
-rated-shows t = go (ℕ-discrete (rateAt t) 0)
+-- a text that starts with no comma
+pub more-other : (t : List ℕ) → startsWith (comma ∷ []) t ≡ false → moreAt t ≡ 0
+unfolding moreAt
+more-other t e = simp e
+
+more-comma : (t : List ℕ) → moreAt (comma ∷ t) ≡ rateAt t
+unfolding moreAt lower
+more-comma t = refl
+
+more-read : {r : ℕ} → IsRate r → (rest : List ℕ) → moreAt (moreText r ++ rest) ≡ r
+more-read i rest = rw (more-rate i) (more-comma _ ∙ rate-read i rest)
+
+comma-split : (t : List ℕ) → (comma ∷ t) ≡ moreText (rateAt t) ++ drop (length (moreText (rateAt t))) (comma ∷ t)
+comma-split t = go (ℕ-discrete (rateAt t) 0)
   where
-    go : Dec (rateAt t ≡ 0) → Shows t (rated t)
-    go (yes e) = rw (behind-none t (rateAt t) e) tt
-    go (no e) = behind-shows t (rateAt t) (rate-found t (rateAt t) refl e) e
+    go : Dec (rateAt t ≡ 0) → (comma ∷ t) ≡ moreText (rateAt t) ++ drop (length (moreText (rateAt t))) (comma ∷ t)
+    go (yes e) = rw (more-none (rateAt t) e)
+    go (no e) = rw (more-some (rateAt t) e) (ap (λ (l : List ℕ). comma ∷ l) (rate-split t))
+
+more-split : (t : List ℕ) → t ≡ moreText (moreAt t) ++ drop (length (moreText (moreAt t))) t
+more-split t = go (startsWith (comma ∷ []) t) refl
+  where
+    go : (x : Bool) → startsWith (comma ∷ []) t ≡ x → t ≡ moreText (moreAt t) ++ drop (length (moreText (moreAt t))) t
+    go false e = rw (more-none (moreAt t) (more-other t e))
+    go true e =
+        let f : t ≡ comma ∷ drop 1 t = starts-exact (comma ∷ []) t refl e in
+        rw f (rw (more-comma (drop 1 t)) (comma-split (drop 1 t)))
+
+pub third-none : (b : ℕ) (t : List ℕ) → b ≡ 0 → 0 ≡ thirdAt b t
+unfolding thirdAt
+third-none b t e = simp (eq-eqb b 0 e)
+
+pub third-more : (b : ℕ) (t : List ℕ) → (b ≡ 0 → ⊥) → moreAt t ≡ thirdAt b t
+unfolding thirdAt
+third-more b t e = simp (ne-eqb b 0 e)
+
+third-split : (b : ℕ) (t : List ℕ) → t ≡ moreText (thirdAt b t) ++ drop (length (moreText (thirdAt b t))) t
+third-split b t = go (ℕ-discrete b 0)
+  where
+    go : Dec (b ≡ 0) → t ≡ moreText (thirdAt b t) ++ drop (length (moreText (thirdAt b t))) t
+    go (yes e) = rw (more-none (thirdAt b t) (sym (third-none b t e)))
+    go (no e) = rw (← (third-more b t e)) (more-split t)
 
 -- ---- lists of rates
 
-pub checked-right : {a b c : ℕ} → IsRates a b c → checked a b c ≡ Rates a b c
-unfolding checked
-checked-right i = simp (rates-pass i)
+-- rates, one behind the other, and what stands behind them
+from-read : (n a b c : ℕ) (u : List ℕ) → rateAt (rateText a ++ (moreText b ++ (moreText c ++ u))) ≡ a → moreAt (moreText b ++ (moreText c ++ u)) ≡ b
+    → thirdAt b (moreText c ++ u) ≡ c → fromRates n (ratesText a b c ++ u) ≡ settle a b c (limitBehind n u)
+unfolding fromRates
+from-read n a b c u p q r =
+    let s : ratesText a b c ++ u ≡ rateText a ++ (moreText b ++ (moreText c ++ u)) = simp append-assoc in
+    rw (s, p, drop-at (rateText a) (moreText b ++ (moreText c ++ u)) (length (rateText a)) refl, q, drop-at (moreText b) (moreText c ++ u) (length (moreText b)) refl, r, drop-at (moreText c) u (length (moreText c)) refl)
 
-pub rates-read : {a b c : ℕ} → IsRates a b c → ratesOf (ratesText a b c) ≡ Rates a b c
-rates-read (one {a = a} ra) =
-    rw (more-none 0 refl, append-nil (rateText a), rated-last ra) (checked-right (one ra))
-rates-read (two {a = a} {b = b} ra rb ab) =
-    rw (more-none 0 refl, more-rate rb, append-nil (rateText b), rated-more ra (rateText b), behind-more ra (rateText b), rated-last rb)
-    (checked-right (two ra rb ab))
-rates-read (three {a = a} {b = b} {c = c} ra rb rc ab ac bc) =
-    rw (more-rate rb, more-rate rc, rated-more ra (rateText b ++ comma ∷ rateText c), behind-more ra (rateText b ++ comma ∷ rateText c), rated-more rb (rateText c), behind-more rb (rateText c), rated-last rc)
-    (checked-right (three ra rb rc ab ac bc))
+module _ (n : ℕ) (u : List ℕ) (f : startsWith (comma ∷ []) u ≡ false) where
+  none-behind : moreAt (moreText 0 ++ u) ≡ 0
+  none-behind = rw (more-none 0 refl) (more-other u f)
 
--- what a value that is read so is
-abbrev pub Gives : List ℕ → Entry → Type 0
-Gives t (Rates a b c) = IsRates a b c × (t ≡ ratesText a b c)
-Gives t (Limit n) = ⊥
-Gives t Wrong = Unit {0}
+  pub rates-read : {a b c : ℕ} → IsRates a b c → fromRates n (ratesText a b c ++ u) ≡ settle a b c (limitBehind n u)
+  rates-read (one {a = a} ra) =
+      from-read n a 0 0 u (rate-read ra (moreText 0 ++ (moreText 0 ++ u))) (rw (more-none 0 refl) (more-other u f)) (sym (third-none 0 (moreText 0 ++ u) refl))
+  rates-read (two {a = a} {b = b} ra rb ab) =
+      from-read n a b 0 u (rate-read ra (moreText b ++ (moreText 0 ++ u))) (more-read rb (moreText 0 ++ u)) (sym (third-more b (moreText 0 ++ u) (λ e. omega (arith, rate-pos rb))) ∙ none-behind)
+  rates-read (three {a = a} {b = b} {c = c} ra rb rc ab ac bc) =
+      from-read n a b c u (rate-read ra (moreText b ++ (moreText c ++ u))) (more-read rb (moreText c ++ u)) (sym (third-more b (moreText c ++ u) (λ e. omega (arith, rate-pos rb))) ∙ more-read rc u)
 
-checked-gives : (t : List ℕ) (a b c : ℕ) → (t ≡ ratesText a b c) → Gives t (checked a b c)
-unfolding checked
-checked-gives t a b c e = go (ratesTest a b c) refl
+-- ---- rates that differ
+
+pub differ-passes : {a b c : ℕ} → IsRates a b c → differTest a b c ≡ true
+unfolding differTest
+differ-passes (one {a = a} ra) = simp (ne-eqb a 0 (λ e. omega (arith, rate-pos ra)), ne-eqb 0 a (λ e. omega (arith, rate-pos ra)))
+differ-passes (two {a = a} {b = b} ra rb ab) =
+    simp (ne-eqb a 0 (λ e. omega (arith, rate-pos ra)), ne-eqb 0 a (λ e. omega (arith, rate-pos ra)), ne-eqb b a (λ e. ab (sym e)))
+differ-passes (three {a = a} {b = b} {c = c} ra rb rc ab ac bc) =
+    simp (ne-eqb a 0 (λ e. omega (arith, rate-pos ra)), ne-eqb c 0 (λ e. omega (arith, rate-pos rc)), ne-eqb b a (λ e. ab (sym e)), ne-eqb c a (λ e. ac (sym e)), ne-eqb b c bc)
+
+differ-passed : (a b c : ℕ) → ((a ≡ 0 → ⊥) → IsRate a) → ((b ≡ 0 → ⊥) → IsRate b) → ((c ≡ 0 → ⊥) → (b ≡ 0 → ⊥) × IsRate c) → differTest a b c ≡ true → IsRates a b c
+unfolding differTest
+differ-passed a b c fa fb fc h =
+    let p = second-true (eqb a 0) _ h in
+    let q = second-true (eqb b a) _ (p .1) in
+    let r = second-true (eqb c a) _ (q .1) in
+    go (fa (eqb-false a 0 (p .0))) (λ e. eqb-false b a (q .0) (sym e)) (λ e. eqb-false c a (r .0) (sym e)) (either-true (eqb c 0) true (not (eqb b c)) (r .1)) (ℕ-discrete b 0)
   where
-    go : (x : Bool) → ratesTest a b c ≡ x → Gives t (cond (ratesTest a b c) (Rates a b c) Wrong)
-    go true f = rw f (rates-passed a b c f, e)
-    go false f = rw f tt
+    go : IsRate a → (a ≡ b → ⊥) → (a ≡ c → ⊥) → ((eqb c 0 ≡ true) × (true ≡ true)) ⊎ ((eqb c 0 ≡ false) × (not (eqb b c) ≡ true)) → Dec (b ≡ 0) → IsRates a b c
+    go ra ab ac (inl z) (yes y) = rw (y, eqb-true c 0 (z .0)) (one ra)
+    go ra ab ac (inl z) (no y) = rw (eqb-true c 0 (z .0)) (two ra (fb y) ab)
+    go ra ab ac (inr z) d =
+        let k = fc (eqb-false c 0 (z .0)) in
+        three ra (fb (k .0)) (k .1) ab ac (eqb-false b c (not-true (eqb b c) (z .1)))
 
-third-gives : (t u : List ℕ) (a b : ℕ) → IsRate b → t ≡ rateText a ++ (comma ∷ (rateText b ++ (comma ∷ u))) → (x : Rated) → Shows u x → Gives t (thirdOf a b x)
-third-gives t u a b rb e (Last c) s = checked-gives t a b c (rw (more-rate rb, more-rate (s .0), ← (s .1)) e)
-third-gives t u a b rb e (More c n) s = tt
-third-gives t u a b rb e Unrated s = tt
+more-is : (t : List ℕ) → (moreAt t ≡ 0 → ⊥) → IsRate (moreAt t)
+more-is t n = go (startsWith (comma ∷ []) t) refl
+  where
+    go : (x : Bool) → startsWith (comma ∷ []) t ≡ x → IsRate (moreAt t)
+    go false e = absurd (n (more-other t e))
+    go true e =
+        let f : moreAt t ≡ rateAt (drop 1 t) = ap moreAt (starts-exact (comma ∷ []) t refl e) ∙ more-comma (drop 1 t) in
+        rw f (rate-found (drop 1 t) (rateAt (drop 1 t)) refl (λ z. n (f ∙ z)) .rate)
 
-second-gives : (t u : List ℕ) (a : ℕ) → t ≡ rateText a ++ (comma ∷ u) → (x : Rated) → Shows u x → Gives t (secondOf a u x)
-second-gives t u a e (Last b) s = checked-gives t a b 0 (rw (more-none 0 refl, append-nil (moreText b), more-rate (s .0), ← (s .1)) e)
-second-gives t u a e (More b n) s =
-    third-gives t (drop n u) a b (s .0) (e ∙ ap (λ (l : List ℕ). rateText a ++ (comma ∷ l)) (s .2)) (rated (drop n u)) (rated-shows (drop n u))
-second-gives t u a e Unrated s = tt
+third-is : (b : ℕ) (t : List ℕ) → (thirdAt b t ≡ 0 → ⊥) → (b ≡ 0 → ⊥) × IsRate (thirdAt b t)
+third-is b t n = go (ℕ-discrete b 0)
+  where
+    go : Dec (b ≡ 0) → (b ≡ 0 → ⊥) × IsRate (thirdAt b t)
+    go (yes e) = absurd (n (sym (third-none b t e)))
+    go (no e) = (e, rw (← (third-more b t e)) (more-is t (λ z. n (sym (third-more b t e) ∙ z))))
 
-first-gives : (t : List ℕ) (x : Rated) → Shows t x → Gives t (firstOf t x)
-first-gives t (Last a) s = checked-gives t a 0 0 (rw (more-none 0 refl, append-nil (rateText a)) (s .1))
-first-gives t (More a n) s = second-gives t (drop n t) a (s .2) (rated (drop n t)) (rated-shows (drop n t))
-first-gives t Unrated s = tt
+-- the rates that a text starts with, and what stands behind them
+pub record Rated (t : List ℕ) : Type 0 where
+  pub a : ℕ
+  pub b : ℕ
+  pub c : ℕ
+  pub rest : List ℕ
+  pub text : t ≡ ratesText a b c ++ rest
+  pub rates : differTest a b c ≡ true → IsRates a b c
+  pub read : (n : ℕ) → fromRates n t ≡ settle a b c (limitBehind n rest)
 
-pub rates-give : (t : List ℕ) → Gives t (ratesOf t)
-rates-give t = first-gives t (rated t) (rated-shows t)
+pub rated : (t : List ℕ) → Rated t
+unfolding fromRates
+rated t =
+    let a = rateAt t in
+    let t₁ = drop (length (rateText a)) t in
+    let b = moreAt t₁ in
+    let t₂ = drop (length (moreText b)) t₁ in
+    let c = thirdAt b t₂ in
+    let t₃ = drop (length (moreText c)) t₂ in
+    let e : t ≡ rateText a ++ (moreText b ++ (moreText c ++ t₃)) =
+    rate-split t ∙ ap (λ (l : List ℕ). rateText a ++ l) (more-split t₁ ∙ ap (λ (l : List ℕ). moreText b ++ l) (third-split b t₂)) in
+    record {
+      a = a;
+      b = b;
+      c = c;
+      rest = t₃;
+      text = e ∙ simp append-assoc;
+      rates = differ-passed a b c (λ n. rate-found t a refl n .rate) (more-is t₁) (third-is b t₂);
+      read = λ n. refl;
+    }
 
 -- ---- the code's steps
 
-module _ (t : List ℕ) (r : ℕ) (at : r ≡ rateAt t) where
-  pub rate-fits : (r ≡ 0 → ⊥) → length (rateText r) ≤ length t
-  rate-fits n = headed-fits (rate-found t r (sym at) n)
+pub at-2400 : (t : List ℕ) → rateAt (50 ∷ t) ≡ cond (startsWith (drop 1 text2400) t) 2400 0
+unfolding rateAt lower
+at-2400 t = refl
 
-  pub next-none : r ≡ 0 → Unrated ≡ rated t
-  next-none e = sym (behind-none t (rateAt t) (sym at ∙ e))
+pub at-1200 : (t : List ℕ) → rateAt (49 ∷ t) ≡ cond (startsWith (drop 1 text1200) t) 1200 0
+unfolding rateAt lower
+at-1200 t = refl
 
-  module _ (k : ℕ) (n : r ≡ 0 → ⊥) (long : k ≡ length (rateText r)) where
-    pub next-last : length t ≡ k → Last r ≡ rated t
-    unfolding behind
-    next-last e = rw (← at) (simp (ne-eqb r 0 n, eq-eqb (length t) (length (rateText r)) (e ∙ long)))
+pub at-600 : (t : List ℕ) → rateAt (54 ∷ t) ≡ cond (startsWith (drop 1 text600) t) 600 0
+unfolding rateAt lower
+at-600 t = refl
 
-    pub next-other : (length t ≡ k → ⊥) → (getD t k 0 ≡ comma → ⊥) → Unrated ≡ rated t
-    unfolding behind
-    next-other e f =
-        rw (← at)
-        (simp (ne-eqb r 0 n, ne-eqb (length t) (length (rateText r)) (λ g. e (g ∙ sym long)), ne-eqb (getD t (length (rateText r)) 0) comma (rw long at f)))
+at-other : (x : ℕ) (t : List ℕ) → (x ≡ 50 → ⊥) → (x ≡ 49 → ⊥) → (x ≡ 54 → ⊥) → rateAt (x ∷ t) ≡ 0
+unfolding rateAt
+at-other x t p q r =
+    simp (ne-eqb (lower x) 50 (λ e. p (fold-only x 50 e (omega arith))), ne-eqb (lower x) 49 (λ e. q (fold-only x 49 e (omega arith))), ne-eqb (lower x) 54 (λ e. r (fold-only x 54 e (omega arith))))
 
-    pub next-more : (length t ≡ k → ⊥) → getD t k 0 ≡ comma → More r (k + 1) ≡ rated t
-    unfolding behind
-    next-more e f =
-        rw (← at, long)
-        (simp (ne-eqb r 0 n, ne-eqb (length t) (length (rateText r)) (λ g. e (g ∙ sym long)), eq-eqb (getD t (length (rateText r)) 0) comma (rw long at f)))
+at-end : rateAt [] ≡ 0
+unfolding rateAt
+at-end = refl
 
--- what stands behind a rate lies in the text
-pub more-fits : (t : List ℕ) (r n : ℕ) {x : Rated} → x ≡ rated t → x ≡ More r n → n ≤ length t
-more-fits t r n e f = (rw (sym e ∙ f) at (rated-shows t)) .1
+module _ (t : List ℕ) (at : ℕ) where
+  pub rate-end : at ≡ length t → 0 ≡ rateAt (drop at t)
+  rate-end e = sym (ap rateAt (ap (λ (k : ℕ). drop k t) e ∙ drop-length t) ∙ at-end)
+
+  module _ (x : ℕ) (lt : at < length t) (is : x ≡ getD t at 0) where
+    here : drop at t ≡ x ∷ drop (at + 1) t
+    here = drop-cons t at 0 lt ∙ rw (is, add-one at)
+
+    -- by its first digit d, behind which the word w stands in the rate v
+    pub rate-by : (d : ℕ) (w : List ℕ) (v r : ℕ) → ((s : List ℕ) → rateAt (d ∷ s) ≡ cond (startsWith w s) v 0)
+        → x ≡ d → r ≡ cond (startsWith w (drop (at + 1) t)) v 0 → r ≡ rateAt (drop at t)
+    rate-by d w v r h e f = f ∙ sym (ap rateAt (here ∙ ap (λ (y : ℕ). y ∷ drop (at + 1) t) e) ∙ h (drop (at + 1) t))
+
+    pub rate-other : (x ≡ 50 → ⊥) → (x ≡ 49 → ⊥) → (x ≡ 54 → ⊥) → 0 ≡ rateAt (drop at t)
+    rate-other p q r = sym (ap rateAt here ∙ at-other x (drop (at + 1) t) p q r)
+
+  pub more-step : startsWith (comma ∷ []) (drop at t) ≡ true → rateAt (drop (at + 1) t) ≡ moreAt (drop at t)
+  unfolding moreAt
+  more-step e = simp e (ap rateAt (sym (drop-on at 1 t)))
+
+  module _ (l : at ≤ length t) (k : ℕ) where
+    pub rate-fits : (a : ℕ) → a ≡ rateAt (drop at t) → k ≡ length (rateText a) → at + k ≤ length t
+    rate-fits a e f = rw (f, e) (split-fits (rateText (rateAt (drop at t))) t at l (rate-split (drop at t)))
+
+    pub more-fits : (b : ℕ) → b ≡ moreAt (drop at t) → k ≡ length (moreText b) → at + k ≤ length t
+    more-fits b e f = rw (f, e) (split-fits (moreText (moreAt (drop at t))) t at l (more-split (drop at t)))
+
+    pub third-fits : (b c : ℕ) → c ≡ thirdAt b (drop at t) → k ≡ length (moreText c) → at + k ≤ length t
+    third-fits b c e f = rw (f, e) (split-fits (moreText (thirdAt b (drop at t))) t at l (third-split b (drop at t)))
+
+-- the rates that stand from an index on, and the lengths of the first two's texts
+pub record Taken (t : List ℕ) (at a k₁ b k₂ c : ℕ) : Type 0 where
+  pub first : a ≡ rateAt (drop at t)
+  pub first-long : k₁ ≡ length (rateText a)
+  pub second : b ≡ moreAt (drop (at + k₁) t)
+  pub second-long : k₂ ≡ length (moreText b)
+  pub third : c ≡ thirdAt b (drop (at + k₁ + k₂) t)
+
+pub from-steps : {t : List ℕ} {at a k₁ b k₂ c : ℕ} → Taken t at a k₁ b k₂ c → (n k₃ : ℕ) → k₃ ≡ length (moreText c)
+    → settle a b c (limitBehind n (drop (at + k₁ + k₂ + k₃) t)) ≡ fromRates n (drop at t)
+unfolding fromRates
+from-steps {t} {at} {a} {k₁} {b} {k₂} {c} h n k₃ f₃ =
+    let s₁ : drop (length (rateText a)) (drop at t) ≡ drop (at + k₁) t =
+    drop-on at (length (rateText a)) t ∙ ap (λ (k : ℕ). drop (at + k) t) (sym (h .first-long)) in
+    let s₂ : drop (length (moreText b)) (drop (at + k₁) t) ≡ drop (at + k₁ + k₂) t =
+    drop-on (at + k₁) (length (moreText b)) t ∙ ap (λ (k : ℕ). drop (at + k₁ + k) t) (sym (h .second-long)) in
+    let s₃ : drop (length (moreText c)) (drop (at + k₁ + k₂) t) ≡ drop (at + k₁ + k₂ + k₃) t =
+    drop-on (at + k₁ + k₂) (length (moreText c)) t ∙ ap (λ (k : ℕ). drop (at + k₁ + k₂ + k) t) (sym f₃) in
+    rw (← (h .first), s₁, ← (h .second), s₂, ← (h .third), s₃)

@@ -11,7 +11,7 @@ use Rattle.fmtp.specs.declared.Parsed.the-variants.{Accepted}
 use Rattle.fmtp.specs.declared.Written.the-variants.{Octets}
 use Rattle.fmtp.specs.Settings.{IsSettings}
 use Rattle.fmtp.specs.Text.{lower, bitrateName, tcmaxName, equals, semicolon, comma, text2400, text1200, text600, rateText, moreText, decimal, settingsOf, Means}
-use Rattle.fmtp.specs.Reader.{digit, numberOf, limitOf, itemOf, alone, readOf, Reads}
+use Rattle.fmtp.specs.Reader.{digit, numberAt, limitBefore, limitAlone, behindBefore, readOf, Reads}
 use Rattle.fmtp.specs.Writer.{textOf, writeReported, WriteReport, Writes, wrong, short, whole}
 use Rattle.fmtp.proofs.TextLaws.{means-settings, written-means}
 use Rattle.fmtp.proofs.ReadLaws.{complete}
@@ -46,7 +46,7 @@ empty-text = refl
 
 -- `tcmax=101`
 pub tcmax-101 : readOf (tcmaxName ++ (equals ∷ 49 ∷ 48 ∷ 49 ∷ [])) ≡ Accepted (settingsOf 2400 0 0 101)
-unfolding readOf itemOf alone limitOf numberOf digit lower
+unfolding readOf behindBefore limitAlone limitBefore numberAt digit decimal lower
 tcmax-101 = refl
 
 -- `bitrate=2400,1200,600;tcmax=255`

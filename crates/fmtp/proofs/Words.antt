@@ -5,9 +5,10 @@ use mathlib.Core.List.{List, [], _∷_, _++_, map}
 use Prim.Native.Nat.{ℕ, suc, _+_, _-_, _≤_, _<_}
 use native.Mathlib.Omega.{arith}
 use native.Mathlib.Numerals.{add-one}
+use native.Mathlib.Decide.{ℕ-discrete}
 use lib.Dec.{eqb, ltb}
-use lib.ListN.{length, getD, take, drop, length-map, length-drop}
-use lib.Seq.{drop-cons, drop-length, take-all}
+use lib.ListN.{length, getD, take, drop, length-map, length-drop, length-append, List·getD-map}
+use lib.Seq.{drop-cons, drop-length, drop-drop}
 use mathlib.Core.Logic.{_⊎_, inl, inr}
 use borrow.Author.Tests.{lt-ltb, le-ltb, eq-eqb, ne-eqb, eqb-true, ltb-true}
 use Rattle.fmtp.specs.Text.{lower}
@@ -27,49 +28,102 @@ fold-only x y e l = go (below-or x 65) (below-or 90 x)
     go (inr a) (inr b) =
         let f : x + 32 ≡ y = simp (le-ltb x 65 a, le-ltb 90 x b) at e in absurd (omega arith)
 
+-- an octet above the small letters likewise
+fold-high : (x y : ℕ) → lower x ≡ y → 122 < y → x ≡ y
+unfolding lower
+fold-high x y e l = go (below-or x 65) (below-or 90 x)
+  where
+    go : (x < 65) ⊎ (65 ≤ x) → (90 < x) ⊎ (x ≤ 90) → x ≡ y
+    go (inl a) b = simp (lt-ltb x 65 a) at e
+    go (inr a) (inl b) = simp (le-ltb x 65 a, lt-ltb 90 x b) at e
+    go (inr a) (inr b) =
+        let f : x + 32 ≡ y = simp (le-ltb x 65 a, le-ltb 90 x b) at e in absurd (omega arith)
+
+-- an octet that is folded from another is folded from its capital
+fold-capital : (x y : ℕ) → lower x ≡ y → (x ≡ y → ⊥) → x + 32 ≡ y
+unfolding lower
+fold-capital x y e n = go (below-or x 65) (below-or 90 x)
+  where
+    go : (x < 65) ⊎ (65 ≤ x) → (90 < x) ⊎ (x ≤ 90) → x + 32 ≡ y
+    go (inl a) b = absurd (n (simp (lt-ltb x 65 a) at e))
+    go (inr a) (inl b) = absurd (n (simp (le-ltb x 65 a, lt-ltb 90 x b) at e))
+    go (inr a) (inr b) = simp (le-ltb x 65 a, le-ltb 90 x b) at e
+
+capital-folds : (x : ℕ) → 65 ≤ x → x ≤ 90 → lower x ≡ x + 32
+unfolding lower
+capital-folds x l h = simp (le-ltb x 65 l, le-ltb 90 x h)
+
+module _ (x w : ℕ) where
+  pub same-octet : lower w ≡ w → x ≡ w → true ≡ eqb (lower x) w
+  same-octet l e = sym (eq-eqb (lower x) w (ap lower e ∙ l))
+
+  pub other-sign : (x ≡ w → ⊥) → w < 97 → false ≡ eqb (lower x) w
+  other-sign n l = sym (ne-eqb (lower x) w (λ e. n (fold-only x w e l)))
+
+  pub other-high : (x ≡ w → ⊥) → 122 < w → false ≡ eqb (lower x) w
+  other-high n l = sym (ne-eqb (lower x) w (λ e. n (fold-high x w e l)))
+
+  pub capital-octet : (x ≡ w → ⊥) → 97 ≤ w → w ≤ 122 → eqb x (w - 32) ≡ eqb (lower x) w
+  capital-octet n l h = go (ℕ-discrete x (w - 32))
+    where
+      go : Dec (x ≡ w - 32) → eqb x (w - 32) ≡ eqb (lower x) w
+      go (yes e) = eq-eqb x (w - 32) e ∙ sym (eq-eqb (lower x) w (capital-folds x (omega arith) (omega arith) ∙ omega arith))
+      go (no e) = ne-eqb x (w - 32) e ∙ sym (ne-eqb (lower x) w (λ f. e (omega (arith, fold-capital x w f n))))
+
 -- ---- the text behind a word
 
-pub starts-long : (w t : List ℕ) → startsWith w t ≡ true → length w ≤ length t
+starts-long : (w t : List ℕ) → startsWith w t ≡ true → length w ≤ length t
 starts-long [] t h = omega arith
 starts-long (x ∷ w) [] h = absurd (false≢true h)
 starts-long (x ∷ w) (y ∷ t) h =
     let r : length w ≤ length t = starts-long w t (both-true (eqb (lower y) x) (startsWith w t) h .1) in omega arith
 
-pub starts-short : (w t : List ℕ) → length t < length w → false ≡ startsWith w t
+starts-short : (w t : List ℕ) → length t < length w → false ≡ startsWith w t
 starts-short w t l = go (startsWith w t) refl
   where
     go : (b : Bool) → startsWith w t ≡ b → false ≡ b
     go true e = absurd (omega (arith, starts-long w t e))
     go false e = refl
 
+getD-fold : (w : List ℕ) (i : ℕ) → getD (map lower w) i 0 ≡ lower (getD w i 0)
+unfolding lower
+getD-fold w i = List·getD-map lower w i 0
+
+-- an octet of a word that is its own folding
+pub word-octet : (w : List ℕ) (i : ℕ) → map lower w ≡ w → lower (getD w i 0) ≡ getD w i 0
+word-octet w i e = sym (getD-fold w i) ∙ ap (λ (l : List ℕ). getD l i 0) e
+
 -- ---- the loop that compares
 
-pub record Compared (w t : List ℕ) (i : ℕ) : Type 0 where
+pub record Compared (w t : List ℕ) (at i : ℕ) : Type 0 where
   pub upto : i ≤ length w
-  pub room : length w ≤ length t
-  pub rest : startsWith (drop i w) (drop i t) ≡ startsWith w t
+  pub room : at + length w ≤ length t
+  pub rest : startsWith (drop i w) (drop (at + i) t) ≡ startsWith w (drop at t)
 
-module _ (w t : List ℕ) where
-  pub compared-start : length w ≤ length t → Compared w t 0
-  compared-start r = record { upto = omega arith; room = r; rest = refl }
+module _ (w t : List ℕ) (at : ℕ) where
+  pub compared-short : at ≤ length t → length t - at < length w → false ≡ startsWith w (drop at t)
+  compared-short h l = starts-short w (drop at t) (omega (arith, length-drop at t))
 
-  module _ (i : ℕ) (h : Compared w t i) (lt : i < length w) where
-    next : cond (eqb (lower (getD t i 0)) (getD w i 0)) (startsWith (drop (suc i) w) (drop (suc i) t)) false ≡ startsWith w t
+  pub compared-start : at ≤ length t → length w ≤ length t - at → Compared w t at 0
+  compared-start h r =
+      let z : at + 0 ≡ at = omega arith in
+      record { upto = omega arith; room = omega arith; rest = ap (λ (k : ℕ). startsWith w (drop k t)) z }
+
+  module _ (i : ℕ) (h : Compared w t at i) (lt : i < length w) where
+    next : cond (eqb (lower (getD t (at + i) 0)) (getD w i 0)) (startsWith (drop (suc i) w) (drop (suc (at + i)) t)) false ≡ startsWith w (drop at t)
     next =
-        let lt₂ : i < length t = omega (arith, h .room) in
-        rw (drop-cons w i 0 lt, drop-cons t i 0 lt₂) at (h .rest)
+        let lt₂ : at + i < length t = omega (arith, h .room) in
+        rw (drop-cons w i 0 lt, drop-cons t (at + i) 0 lt₂) at (h .rest)
 
-    pub compared-same : lower (getD t i 0) ≡ getD w i 0 → Compared w t (i + 1)
-    compared-same e = record {
-      upto = omega arith;
-      room = h .room;
-      rest = rw (add-one i) (simp (eq-eqb (lower (getD t i 0)) (getD w i 0) e) at next);
-    }
+    pub compared-same : true ≡ eqb (lower (getD t (at + i) 0)) (getD w i 0) → Compared w t at (i + 1)
+    compared-same e =
+        let f : at + suc i ≡ suc (at + i) = omega arith in
+        record { upto = omega arith; room = h .room; rest = rw (add-one i, f) (simp (sym e) at next) }
 
-    pub compared-other : (lower (getD t i 0) ≡ getD w i 0 → ⊥) → false ≡ startsWith w t
-    compared-other e = simp (ne-eqb (lower (getD t i 0)) (getD w i 0) e) at next
+    pub compared-other : false ≡ eqb (lower (getD t (at + i) 0)) (getD w i 0) → false ≡ startsWith w (drop at t)
+    compared-other e = simp (sym e) at next
 
-  pub compared-end : (i : ℕ) → Compared w t i → length w ≤ i → true ≡ startsWith w t
+  pub compared-end : (i : ℕ) → Compared w t at i → length w ≤ i → true ≡ startsWith w (drop at t)
   compared-end i h l =
       let e : i ≡ length w = omega (arith, h .upto) in
       rw (e, drop-length w) at (h .rest)
@@ -77,7 +131,7 @@ module _ (w t : List ℕ) where
 -- ---- what a word at the start tells
 
 -- no octet of the word is a small letter
-abbrev pub letterless : List ℕ → Bool
+abbrev letterless : List ℕ → Bool
 letterless [] = true
 letterless (x ∷ w) = cond (ltb x 97) (letterless w) false
 
@@ -130,6 +184,14 @@ pub map-append : (v w : List ℕ) → map lower (v ++ w) ≡ map lower v ++ map 
 map-append [] w = refl
 map-append (x ∷ v) w = ap (λ (l : List ℕ). lower x ∷ l) (map-append v w)
 
--- the part of a text from an index on
-pub tail-part : (n : ℕ) (t : List ℕ) → take (length t - n) (drop n t) ≡ drop n t
-tail-part n t = take-all (length t - n) (drop n t) (omega (arith, length-drop n t))
+-- ---- from an index on
+
+pub drop-on : (at k : ℕ) (t : List ℕ) → drop k (drop at t) ≡ drop (at + k) t
+drop-on at k t = drop-drop k at t
+
+pub starts-fit : (w t : List ℕ) (at : ℕ) → at ≤ length t → startsWith w (drop at t) ≡ true → at + length w ≤ length t
+starts-fit w t at l e = omega (arith, starts-long w (drop at t) e, length-drop at t)
+
+-- a list that the text starts with lies in it
+pub split-fits : (a t : List ℕ) (at : ℕ) → at ≤ length t → drop at t ≡ a ++ drop (length a) (drop at t) → at + length a ≤ length t
+split-fits a t at l e = omega (arith, ap length e ∙ length-append a (drop (length a) (drop at t)), length-drop at t)

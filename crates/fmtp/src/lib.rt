@@ -1,11 +1,14 @@
 // The setting text: the parameters of an SDP fmtp attribute, read and written.
 use refusal::Refusal;
 ghost use mathlib.Core.Path.{_≡_};
+ghost use mathlib.Core.Bool.{cond};
+ghost use mathlib.Core.List.{map};
 ghost use Prim.Native.Nat.{_+_, _≤_, _<_};
-ghost use lib.ListN.{length};
+ghost use lib.Dec.{eqb};
+ghost use lib.ListN.{length, drop};
 ghost use Rattle.fmtp.specs.Settings.{Decides, IsSettings, rateTest, thirdTest, ratesTest};
 ghost use Rattle.fmtp.specs.Text.{lower, rateText, moreText, ratesText, decimal, settingsOf};
-ghost use Rattle.fmtp.specs.Reader.{startsWith, rateAt, rated, checked, thirdOf, secondOf, ratesOf, digit, numberOf, limitOf, itemOf, firstSemicolon, wrongText, alone, both, Reads};
+ghost use Rattle.fmtp.specs.Reader.{startsWith, rateAt, moreAt, thirdAt, differTest, digit, numberAt, lastNumber, orMissing, limitBehind, fromRates, limitBefore, limitAlone, behindLimit, wrongText, Reads};
 ghost use Rattle.fmtp.specs.Writer.{textOf, MayBeWritten, failing, Put, Writes};
 
 // Document 01's settings: one to three different rates, the preferred one first, unused places 0;
@@ -27,20 +30,6 @@ pub enum Parsed {
 pub enum Written {
     Octets(usize),
     Refused(Refusal),
-}
-
-// A rate at a text's start: the last of its list, or one with another from an index on, or none.
-enum Rated {
-    Last(u16),
-    More(u16, usize),
-    Unrated,
-}
-
-// What an item gives: its rates, its tcmax, or nothing that is right.
-enum Entry {
-    Rates(u16, u16, u16),
-    Limit(u16),
-    Wrong,
 }
 
 // What a missing tcmax means.
@@ -109,29 +98,34 @@ pub fn is_settings(s: Settings) -> bool
 
 // ---- the reader
 
-// A capital letter's small one.
-fn fold(x: u8) -> u8
-    ensures { λ r. ⌜ r ≡ lower x ⌝ }
+// Whether the octet is the word's, its letter case folded.
+fn same(x: u8, w: u8) -> bool
+    requires { ⌜ lower w ≡ w ⌝ }
+    ensures { λ r. ⌜ r ≡ eqb (lower x) w ⌝ }
 {
-    if x < b'A' {
-        return x;
+    if x == w {
+        return true;
     }
-    if b'Z' < x {
-        return x;
+    if w < b'a' {
+        return false;
     }
-    x + 32
+    if b'z' < w {
+        return false;
+    }
+    x == w - 32
 }
 
-// Whether the text starts with the word, the text's letter case folded. (A word without letters is met by itself alone.)
-fn starts(text: &[u8], word: &[u8]) -> bool
-    ensures { λ r. ⌜ r ≡ startsWith (now (word .entry)) (now (text .entry)) ⌝ }
+// Whether the word stands in the text from the index on, the text's letter case folded.
+fn starts(text: &[u8], at: usize, word: &[u8]) -> bool
+    requires { ⌜ (at ≤ length (now text)) × (map lower (now word) ≡ now word) ⌝ }
+    ensures { λ r. ⌜ r ≡ startsWith (now (word .entry)) (drop at (now (text .entry))) ⌝ }
 {
-    if text.len() < word.len() {
+    if text.len() - at < word.len() {
         return false;
     }
     let mut i = 0;
     while i < word.len() {
-        if fold(text[i]) != word[i] {
+        if !same(text[at + i], word[i]) {
             return false;
         }
         i += 1;
@@ -139,18 +133,34 @@ fn starts(text: &[u8], word: &[u8]) -> bool
     true
 }
 
-// The rate at the text's start, or 0.
-fn rate_at(text: &[u8]) -> u16
-    ensures { λ r. ⌜ r ≡ rateAt (now (text .entry)) ⌝ }
+// The rate, if the rest of its text stands from the index on; or 0.
+fn rate_if(text: &[u8], at: usize, rest: &[u8], rate: u16) -> u16
+    requires { ⌜ (at ≤ length (now text)) × (map lower (now rest) ≡ now rest) ⌝ }
+    ensures { λ r. ⌜ r ≡ cond (startsWith (now (rest .entry)) (drop at (now (text .entry)))) rate 0 ⌝ }
 {
-    if starts(text, b"2400") {
-        return 2400;
+    if starts(text, at, rest) {
+        return rate;
     }
-    if starts(text, b"1200") {
-        return 1200;
+    0
+}
+
+// The rate from the index on, or 0.
+fn rate_at(text: &[u8], at: usize) -> u16
+    requires { ⌜ at ≤ length (now text) ⌝ }
+    ensures { λ r. ⌜ r ≡ rateAt (drop at (now (text .entry))) ⌝ }
+{
+    if at == text.len() {
+        return 0;
     }
-    if starts(text, b"600") {
-        return 600;
+    let x = text[at];
+    if x == b'2' {
+        return rate_if(text, at + 1, b"400", 2400);
+    }
+    if x == b'1' {
+        return rate_if(text, at + 1, b"200", 1200);
+    }
+    if x == b'6' {
+        return rate_if(text, at + 1, b"00", 600);
     }
     0
 }
@@ -171,142 +181,61 @@ fn rate_len(rate: u16) -> usize
     0
 }
 
-// The rate at the text's start, and what stands behind it.
-fn next_rate(text: &[u8]) -> Rated
-    ensures { λ r. ⌜ r ≡ rated (now (text .entry)) ⌝ }
+// The octets of a further rate's text.
+fn more_len(rate: u16) -> usize
+    ensures { λ r. ⌜ r ≡ length (moreText rate) ⌝ }
 {
-    let rate = rate_at(text);
     if rate == 0 {
-        return Rated::Unrated;
+        return 0;
     }
-    let n = rate_len(rate);
-    if text.len() == n {
-        return Rated::Last(rate);
-    }
-    if text[n] != b',' {
-        return Rated::Unrated;
-    }
-    Rated::More(rate, n + 1)
+    1 + rate_len(rate)
 }
 
-fn check_rates(a: u16, b: u16, c: u16) -> Entry
-    ensures { λ r. ⌜ r ≡ checked a b c ⌝ }
+// The octets of a number's text.
+fn number_len(n: u16) -> usize
+    ensures { λ r. ⌜ r ≡ length (decimal n) ⌝ }
 {
-    if is_rates(a, b, c) {
-        return Entry::Rates(a, b, c);
+    if n < 10 {
+        return 1;
     }
-    Entry::Wrong
+    if n < 100 {
+        return 2;
+    }
+    3
 }
 
-fn third_rate(a: u16, b: u16, text: &[u8]) -> Entry
-    ensures { λ r. ⌜ r ≡ thirdOf a b (rated (now (text .entry))) ⌝ }
-{
-    let next = next_rate(text);
-    match next {
-        Rated::Last(c) => check_rates(a, b, c),
-        Rated::More(_, _) => Entry::Wrong,
-        Rated::Unrated => Entry::Wrong,
-    }
-}
-
-fn second_rate(a: u16, text: &[u8]) -> Entry
-    ensures { λ r. ⌜ r ≡ secondOf a (now (text .entry)) (rated (now (text .entry))) ⌝ }
-{
-    let next = next_rate(text);
-    match next {
-        Rated::Last(b) => check_rates(a, b, 0),
-        Rated::More(b, n) => third_rate(a, b, &text[n..]),
-        Rated::Unrated => Entry::Wrong,
-    }
-}
-
-// The value of a bitrate item.
-fn rates(text: &[u8]) -> Entry
-    ensures { λ r. ⌜ r ≡ ratesOf (now (text .entry)) ⌝ }
-{
-    let next = next_rate(text);
-    match next {
-        Rated::Last(a) => check_rates(a, 0, 0),
-        Rated::More(a, n) => second_rate(a, &text[n..]),
-        Rated::Unrated => Entry::Wrong,
-    }
-}
-
-// A digit's number, or 10.
+// A digit's number; over 9 if it is no digit.
 fn digit_of(x: u8) -> u16
     ensures { λ r. ⌜ r ≡ digit x ⌝ }
 {
     if x < b'0' {
-        return 10;
-    }
-    if b'9' < x {
-        return 10;
+        return (208 + x) as u16;
     }
     (x - b'0') as u16
 }
 
-// The number 1 to 255 that the whole text gives, or 0.
-fn number(text: &[u8]) -> u16
-    ensures { λ r. ⌜ r ≡ numberOf (now (text .entry)) ⌝ }
+// The number 1 to 255 whose digits stand from the index on, or 0.
+fn number(text: &[u8], at: usize) -> u16
+    requires { ⌜ at ≤ length (now text) ⌝ }
+    ensures { λ r. ⌜ r ≡ numberAt (drop at (now (text .entry))) ⌝ }
 {
-    if text.len() == 0 {
-        return 0;
-    }
-    if text[0] == b'0' {
-        return 0;
-    }
     let mut value: u16 = 0;
-    let mut i = 0;
+    let mut i = at;
     while i < text.len() {
         let d = digit_of(text[i]);
         if 9 < d {
-            return 0;
+            return value;
         }
         value = value * 10 + d;
+        if value == 0 {
+            return 0;
+        }
         if 255 < value {
             return 0;
         }
         i += 1;
     }
     value
-}
-
-// The value of a tcmax item.
-fn limit(text: &[u8]) -> Entry
-    ensures { λ r. ⌜ r ≡ limitOf (numberOf (now (text .entry))) ⌝ }
-{
-    let n = number(text);
-    if n == 0 {
-        return Entry::Wrong;
-    }
-    Entry::Limit(n)
-}
-
-// The item that the whole text gives.
-fn item(text: &[u8]) -> Entry
-    ensures { λ r. ⌜ r ≡ itemOf (now (text .entry)) ⌝ }
-{
-    if starts(text, b"bitrate=") {
-        return rates(&text[8..]);
-    }
-    if starts(text, b"tcmax=") {
-        return limit(&text[6..]);
-    }
-    Entry::Wrong
-}
-
-// The index of the first `;`, or the text's length.
-fn find_semicolon(text: &[u8]) -> usize
-    ensures { λ r. ⌜ r ≡ firstSemicolon (now (text .entry)) ⌝ }
-{
-    let mut i = 0;
-    while i < text.len() {
-        if text[i] == b';' {
-            return i;
-        }
-        i += 1;
-    }
-    i
 }
 
 fn refuse() -> Parsed
@@ -329,62 +258,160 @@ fn accept(first: u16, second: u16, third: u16, tcmax: u16) -> Parsed
     })
 }
 
-// What one item means.
-fn one_item(entry: Entry) -> Parsed
-    ensures { λ r. ⌜ r ≡ alone entry ⌝ }
+// The tcmax of an item before, of which 0 stands for none.
+fn tcmax_or_missing(n: u16) -> u16
+    ensures { λ r. ⌜ r ≡ orMissing n ⌝ }
 {
-    match entry {
-        Entry::Rates(a, b, c) => accept(a, b, c, MISSING_TCMAX),
-        Entry::Limit(n) => accept(2400, 0, 0, n),
-        Entry::Wrong => refuse(),
+    if n == 0 {
+        return MISSING_TCMAX;
     }
+    n
 }
 
-fn limit_behind(a: u16, b: u16, c: u16, second: Entry) -> Parsed
-    ensures { λ r. ⌜ r ≡ both (Entry.Rates a b c) second ⌝ }
+// The rate behind a comma from the index on, or 0.
+fn more_at(text: &[u8], at: usize) -> u16
+    requires { ⌜ at ≤ length (now text) ⌝ }
+    ensures { λ r. ⌜ r ≡ moreAt (drop at (now (text .entry))) ⌝ }
 {
-    match second {
-        Entry::Rates(_, _, _) => refuse(),
-        Entry::Limit(n) => accept(a, b, c, n),
-        Entry::Wrong => refuse(),
+    if starts(text, at, b",") {
+        return rate_at(text, at + 1);
     }
+    0
 }
 
-fn rates_behind(n: u16, second: Entry) -> Parsed
-    ensures { λ r. ⌜ r ≡ both (Entry.Limit n) second ⌝ }
+// The third rate from the index on, or 0; none stands behind no second one.
+fn third_at(text: &[u8], at: usize, b: u16) -> u16
+    requires { ⌜ at ≤ length (now text) ⌝ }
+    ensures { λ r. ⌜ r ≡ thirdAt b (drop at (now (text .entry))) ⌝ }
 {
-    match second {
-        Entry::Rates(a, b, c) => accept(a, b, c, n),
-        Entry::Limit(_) => refuse(),
-        Entry::Wrong => refuse(),
+    if b == 0 {
+        return 0;
     }
+    more_at(text, at)
 }
 
-// What two items mean.
-fn two_items(first: Entry, second: Entry) -> Parsed
-    ensures { λ r. ⌜ r ≡ both first second ⌝ }
+// The number 1 to 255 that ends the text from the index on, or 0.
+fn last_number(text: &[u8], at: usize) -> u16
+    requires { ⌜ at ≤ length (now text) ⌝ }
+    ensures { λ r. ⌜ r ≡ lastNumber (drop at (now (text .entry))) ⌝ }
 {
-    match first {
-        Entry::Rates(a, b, c) => limit_behind(a, b, c, second),
-        Entry::Limit(n) => rates_behind(n, second),
-        Entry::Wrong => refuse(),
+    let n = number(text, at);
+    if text.len() - at != number_len(n) {
+        return 0;
     }
+    n
 }
 
-// Reads a setting text. No octet is looked at more than five times, and none is copied.
+// The tcmax of a text whose rates end at the index, or 0. An item before gave n, or 0 for none.
+fn limit_behind(text: &[u8], at: usize, n: u16) -> u16
+    requires { ⌜ at ≤ length (now text) ⌝ }
+    ensures { λ r. ⌜ r ≡ limitBehind n (drop at (now (text .entry))) ⌝ }
+{
+    if at == text.len() {
+        return tcmax_or_missing(n);
+    }
+    if n != 0 {
+        return 0;
+    }
+    if !starts(text, at, b";tcmax=") {
+        return 0;
+    }
+    last_number(text, at + 7)
+}
+
+// Whether a first rate was read, and the rates differ. 0 stands for an unused place.
+fn differ(a: u16, b: u16, c: u16) -> bool
+    ensures { λ r. ⌜ r ≡ differTest a b c ⌝ }
+{
+    if a == 0 {
+        return false;
+    }
+    if b == a {
+        return false;
+    }
+    if c == a {
+        return false;
+    }
+    if c == 0 {
+        return true;
+    }
+    b != c
+}
+
+// Reads from the rates on. An item before gave n, or 0 for none.
+fn from_rates(text: &[u8], at: usize, n: u16) -> Parsed
+    requires { ⌜ at ≤ length (now text) ⌝ }
+    ensures { λ r. ⌜ r ≡ fromRates n (drop at (now (text .entry))) ⌝ }
+{
+    let a = rate_at(text, at);
+    let second = at + rate_len(a);
+    let b = more_at(text, second);
+    let third = second + more_len(b);
+    let c = third_at(text, third, b);
+    if !differ(a, b, c) {
+        return refuse();
+    }
+    let tcmax = limit_behind(text, third + more_len(c), n);
+    if tcmax == 0 {
+        return refuse();
+    }
+    accept(a, b, c, tcmax)
+}
+
+// The number of a tcmax item at the text's start, or 0.
+fn limit_before(text: &[u8]) -> u16
+    ensures { λ r. ⌜ r ≡ limitBefore (now (text .entry)) ⌝ }
+{
+    if starts(text, 0, b"tcmax=") {
+        return number(text, 6);
+    }
+    0
+}
+
+// Whether a tcmax item at the start, of the number n, is the whole text. 0 stands for none.
+fn limit_alone(text: &[u8], n: u16) -> bool
+    ensures { λ r. ⌜ r ≡ limitAlone n (now (text .entry)) ⌝ }
+{
+    if n == 0 {
+        return false;
+    }
+    text.len() == 6 + number_len(n)
+}
+
+// Where a bitrate item is to start: at 0 where n is 0; else behind a tcmax item of the number n and its `;`, or at the text's end
+// where no `;` stands.
+fn bitrate_at(text: &[u8], n: u16) -> usize
+    requires { ⌜ n ≡ limitBefore (now text) ⌝ }
+    ensures { λ r. ⌜ (r ≤ length (now (text .entry))) × (drop r (now (text .entry)) ≡ behindLimit n (now (text .entry))) ⌝ }
+{
+    if n == 0 {
+        return 0;
+    }
+    let end = 6 + number_len(n);
+    if starts(text, end, b";") {
+        return end + 1;
+    }
+    text.len()
+}
+
+// Reads a setting text in one pass: each step reads from its index on, and the next one from where it ended. What a step took is
+// not looked at again; an octet that it found to be another's is looked at once more, by the next. So no octet is looked at more
+// than twice, and none is copied.
 pub fn read(text: &[u8]) -> Parsed
     ensures { λ r. ⌜ Reads (now (text .entry)) r ⌝ }
 {
     if text.len() == 0 {
         return accept(2400, 0, 0, MISSING_TCMAX);
     }
-    let at = find_semicolon(text);
-    if at == text.len() {
-        return one_item(item(text));
+    let n = limit_before(text);
+    if limit_alone(text, n) {
+        return accept(2400, 0, 0, n);
     }
-    let first = item(&text[..at]);
-    let second = item(&text[at + 1..]);
-    two_items(first, second)
+    let at = bitrate_at(text, n);
+    if !starts(text, at, b"bitrate=") {
+        return refuse();
+    }
+    from_rates(text, at + 8, n)
 }
 
 // ---- the writer
@@ -466,27 +493,6 @@ fn put_settings(s: Settings, out: &mut [u8]) -> usize
     let name_at = put_rates(out, rates_at, s.first, s.second, s.third);
     let number_at = put(out, name_at, b";tcmax=");
     put_number(out, number_at, s.tcmax)
-}
-
-fn more_len(rate: u16) -> usize
-    ensures { λ r. ⌜ r ≡ length (moreText rate) ⌝ }
-{
-    if rate == 0 {
-        return 0;
-    }
-    1 + rate_len(rate)
-}
-
-fn number_len(n: u16) -> usize
-    ensures { λ r. ⌜ r ≡ length (decimal n) ⌝ }
-{
-    if n < 10 {
-        return 1;
-    }
-    if n < 100 {
-        return 2;
-    }
-    3
 }
 
 fn text_len(s: Settings) -> usize

@@ -1,28 +1,20 @@
 use Rattle.fmtp.proofs.number.Statement.{statement}
 use Rattle.fmtp.proofs.number.Tie as tie
 use Prim.Native.Nat.{_-_}
-use lib.ListN.{length}
+use lib.ListN.{length, drop}
 use native.Mathlib.Omega.{arith}
 use borrow.Author.Needs.{needs}
-use Rattle.fmtp.proofs.NumberLaws.{number-empty, number-zero, Counted, counted-start, counted-none, counted-over, counted-next, counted-end}
+use Rattle.fmtp.specs.Reader.{numberAt}
+use Rattle.fmtp.proofs.NumberLaws.{Counted, counted-start, counted-behind, counted-zero, counted-over, counted-next, counted-end}
 
 abbrev Inv-loop : tie.InvT-loop
-Inv-loop text value₀ i₀ value i = Counted text value i
+Inv-loop text at value₀ i₀ value i = Counted text (numberAt (drop at text)) value i
 
 abbrev μ-loop : tie.MeasureT-loop
-μ-loop text value₀ i₀ value i = length text - i
-
-returns : tie.Need-returns Inv-loop μ-loop
-returns c = number-empty _ (c .if1 .taken)
-
-shared-slice-read-if2 : tie.Need-shared-slice-read-if2 Inv-loop μ-loop
-shared-slice-read-if2 c = omega arith
-
-returns-2 : tie.Need-returns-2 Inv-loop μ-loop
-returns-2 c = number-zero _ (c .before .before .if1 .left) (c .if2 .taken)
+μ-loop text at value₀ i₀ value i = length text - i
 
 loop-holds : tie.Need-loop-holds Inv-loop μ-loop
-loop-holds c = counted-start _ (c .before .before .if1 .left) (c .if2 .left)
+loop-holds c = counted-start _ _ (c .before .pre)
 
 shared-slice-read-digit-of : tie.Need-shared-slice-read-digit-of Inv-loop μ-loop
 shared-slice-read-digit-of c = omega arith
@@ -30,8 +22,8 @@ shared-slice-read-digit-of c = omega arith
 digit-of-requires : tie.Need-digit-of-requires Inv-loop μ-loop
 digit-of-requires c κs = search needs
 
-returns-3 : tie.Need-returns-3 Inv-loop μ-loop
-returns-3 c = counted-none _ _ _ _ (c .before .before .before .before .loop .inv) (c .before .before .before .loop-test .taken) (c .before .digit-of .ensures) (c .if3 .taken)
+returns : tie.Need-returns Inv-loop μ-loop
+returns c = counted-behind _ _ _ _ (c .before .before .before .before .loop .inv) _ (c .before .before .before .loop-test .taken) (c .before .digit-of .ensures) (c .if1 .taken)
 
 mul-value : tie.Need-mul-value Inv-loop μ-loop
 mul-value c = omega (arith, c .before .before .before .before .loop .inv .small)
@@ -39,8 +31,11 @@ mul-value c = omega (arith, c .before .before .before .before .loop .inv .small)
 add-value : tie.Need-add-value Inv-loop μ-loop
 add-value c = omega (arith, c .before .before .before .before .loop .inv .small)
 
-returns-4 : tie.Need-returns-4 Inv-loop μ-loop
-returns-4 c = counted-over _ _ _ _ (c .before .before .before .before .before .loop .inv) (c .before .before .before .before .loop-test .taken) (c .before .before .digit-of .ensures) (c .before .if3 .left) (c .if4 .taken)
+returns-2 : tie.Need-returns-2 Inv-loop μ-loop
+returns-2 c = counted-zero _ _ _ _ (c .before .before .before .before .before .loop .inv) _ (c .before .before .before .before .loop-test .taken) (c .before .before .digit-of .ensures) (c .before .if1 .left) (c .if2 .taken)
+
+returns-3 : tie.Need-returns-3 Inv-loop μ-loop
+returns-3 c = counted-over _ _ _ _ (c .before .before .before .before .before .before .loop .inv) _ (c .before .before .before .before .before .loop-test .taken) (c .before .before .before .digit-of .ensures) (c .before .before .if1 .left) (c .before .if2 .left) (c .if3 .taken)
 
 add-i : tie.Need-add-i Inv-loop μ-loop
 add-i c = omega arith
@@ -49,10 +44,10 @@ loop-less : tie.Need-loop-less Inv-loop μ-loop
 loop-less c = omega arith
 
 loop-again : tie.Need-loop-again Inv-loop μ-loop
-loop-again c = counted-next _ _ _ _ (c .before .before .before .before .before .loop .inv) (c .before .before .before .before .loop-test .taken) (c .before .before .digit-of .ensures) (c .before .if3 .left) (c .if4 .left)
+loop-again c = counted-next _ _ _ _ (c .before .before .before .before .before .before .loop .inv) _ (c .before .before .before .before .before .loop-test .taken) (c .before .before .before .digit-of .ensures) (c .before .before .if1 .left) (c .before .if2 .left) (c .if3 .left)
 
-returns-5 : tie.Need-returns-5 Inv-loop μ-loop
-returns-5 c = counted-end _ _ _ (c .before .loop .inv) (c .loop-test .left)
+returns-4 : tie.Need-returns-4 Inv-loop μ-loop
+returns-4 c = counted-end _ _ _ _ (c .before .loop .inv) (c .loop-test .left)
 
 pub number-spec : {M : Type 1} → statement M
 number-spec =
@@ -60,17 +55,15 @@ number-spec =
     (tie.spec
     Inv-loop
     μ-loop
-    returns
-    shared-slice-read-if2
-    returns-2
     loop-holds
     shared-slice-read-digit-of
     digit-of-requires
-    returns-3
+    returns
     mul-value
     add-value
-    returns-4
+    returns-2
+    returns-3
     add-i
     loop-less
     loop-again
-    returns-5)
+    returns-4)

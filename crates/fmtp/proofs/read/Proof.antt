@@ -1,13 +1,12 @@
+use borrow.Author.Needs.{needs}
 use Rattle.fmtp.proofs.read.Statement.{statement}
 use Rattle.fmtp.proofs.read.Tie as tie
-use borrow.Author.Needs.{needs}
-use mathlib.Core.Path.{_∙_, sym, ap}
-use native.Mathlib.Omega.{arith}
-use lib.Seq.{length-take-le}
-use Rattle.fmtp.proofs.Semicolons.{seek-most}
-use Rattle.fmtp.proofs.ReadLaws.{read-empty, read-one, read-two, promise}
-use Rattle.fmtp.proofs.Words.{tail-part}
-use Rattle.fmtp.specs.Reader.{alone}
+use mathlib.Core.List.{[], _∷_, _++_}
+use mathlib.Core.Path.{refl, _∙_, sym}
+use borrow.Author.Tests.{not-true, not-false}
+use Rattle.fmtp.specs.Text.{lower, bitrateName, equals}
+use Rattle.fmtp.proofs.Words.{starts-fit}
+use Rattle.fmtp.proofs.ReadLaws.{read-empty, read-alone, read-other, read-bitrate, promise}
 
 accept-requires : tie.Need-accept-requires
 accept-requires c κs = search needs
@@ -15,44 +14,42 @@ accept-requires c κs = search needs
 returns : tie.Need-returns
 returns c = promise _ _ (c .accept .ensures ∙ read-empty _ (c .before .if1 .taken))
 
-find-semicolon-requires : tie.Need-find-semicolon-requires
-find-semicolon-requires c κs = search needs
+limit-before-requires : tie.Need-limit-before-requires
+limit-before-requires c κs = search needs
 
-item-requires : tie.Need-item-requires
-item-requires c κs = search needs
+limit-alone-requires : tie.Need-limit-alone-requires
+limit-alone-requires c κs = search needs
 
-one-item-requires : tie.Need-one-item-requires
-one-item-requires c κs = search needs
+accept-requires-2 : tie.Need-accept-requires-2
+accept-requires-2 c κs = search needs
 
 returns-2 : tie.Need-returns-2
-returns-2 c = promise _ _ (c .one-item .ensures ∙ ap alone (c .before .item .ensures) ∙ read-one _ (c .before .before .before .before .if1 .left) _ (c .before .before .before .find-semicolon .ensures) (c .before .before .if2 .taken))
+returns-2 c = promise _ _ (c .accept2 .ensures ∙ read-alone _ _ (c .before .before .before .before .if1 .left) (c .before .before .before .limit-before .ensures) (sym (c .before .before .limit-alone .ensures) ∙ c .before .if2 .taken))
 
-slice-aggregate-item : tie.Need-slice-aggregate-item
-slice-aggregate-item c = sym (length-take-le _ _ (omega (arith, seek-most (c .before .before .before .before .before .args .text .now), c .before .before .find-semicolon .ensures)))
+bitrate-at-requires : tie.Need-bitrate-at-requires
+bitrate-at-requires c κs = search needs
 
-item-requires-2 : tie.Need-item-requires-2
-item-requires-2 c κs = search needs
+slice-aggregate-starts : tie.Need-slice-aggregate-starts
+slice-aggregate-starts c = search needs
 
-add-item : tie.Need-add-item
-add-item c = omega (arith, seek-most (c .before .before .before .before .before .before .args .text .now), c .before .before .before .find-semicolon .ensures, c .before .before .if2 .left)
+starts-requires : tie.Need-starts-requires
+unfolding lower
+starts-requires c κs = (c .before .bitrate-at .ensures .0, refl)
 
-sub-item : tie.Need-sub-item
-sub-item c = omega (arith, seek-most (c .before .before .before .before .before .before .args .text .now), c .before .before .before .find-semicolon .ensures, c .before .before .if2 .left)
-
-part-item-start : tie.Need-part-item-start
-part-item-start c = omega (arith, seek-most (c .before .before .before .before .before .before .args .text .now), c .before .before .before .find-semicolon .ensures, c .before .before .if2 .left)
-
-part-item-end : tie.Need-part-item-end
-part-item-end c = search needs
-
-item-requires-3 : tie.Need-item-requires-3
-item-requires-3 c κs = search needs
-
-two-items-requires : tie.Need-two-items-requires
-two-items-requires c κs = search needs
+refuse-requires : tie.Need-refuse-requires
+refuse-requires c κs = search needs
 
 returns-3 : tie.Need-returns-3
-returns-3 c = promise _ _ (c .two-items .ensures ∙ rw (c .before .before .before .item2 .ensures, rw tail-part at (c .before .item3 .ensures)) (read-two _ (c .before .before .before .before .before .before .before .if1 .left) _ (c .before .before .before .before .before .before .find-semicolon .ensures) (c .before .before .before .before .before .if2 .left)))
+returns-3 c = promise _ _ (c .refuse .ensures ∙ read-other (c .before .before .before .before .before .before .before .before .before .before .args .text .now) _ (c .before .before .before .before .bitrate-at .result) (c .before .before .before .before .before .before .before .before .if1 .left) (c .before .before .before .before .before .before .before .limit-before .ensures) (sym (c .before .before .before .before .before .before .limit-alone .ensures) ∙ c .before .before .before .before .before .if2 .left) (c .before .before .before .before .bitrate-at .ensures .1) (sym (c .before .before .starts .ensures) ∙ not-true _ (c .before .if3 .taken)))
+
+add-from-rates : tie.Need-add-from-rates
+add-from-rates c = search needs
+
+from-rates-requires : tie.Need-from-rates-requires
+from-rates-requires c κs = starts-fit (bitrateName ++ (equals ∷ [])) (c .before .before .before .before .before .before .before .before .before .args .text .now) (c .before .before .before .bitrate-at .result) (c .before .before .before .bitrate-at .ensures .0) (sym (c .before .starts .ensures) ∙ not-false _ (c .if3 .left))
+
+returns-4 : tie.Need-returns-4
+returns-4 c = promise _ _ (c .from-rates .ensures ∙ read-bitrate (c .before .before .before .before .before .before .before .before .before .before .args .text .now) _ (c .before .before .before .before .bitrate-at .result) (c .before .before .before .before .before .before .before .before .if1 .left) (c .before .before .before .before .before .before .before .limit-before .ensures) (sym (c .before .before .before .before .before .before .limit-alone .ensures) ∙ c .before .before .before .before .before .if2 .left) (c .before .before .before .before .bitrate-at .ensures .1) (sym (c .before .before .starts .ensures) ∙ not-false _ (c .before .if3 .left)))
 
 pub read-spec : {M : Type 1} → statement M
 read-spec =
@@ -60,16 +57,15 @@ read-spec =
     (tie.spec
     accept-requires
     returns
-    find-semicolon-requires
-    item-requires
-    one-item-requires
+    limit-before-requires
+    limit-alone-requires
+    accept-requires-2
     returns-2
-    slice-aggregate-item
-    item-requires-2
-    add-item
-    sub-item
-    part-item-start
-    part-item-end
-    item-requires-3
-    two-items-requires
-    returns-3)
+    bitrate-at-requires
+    slice-aggregate-starts
+    starts-requires
+    refuse-requires
+    returns-3
+    add-from-rates
+    from-rates-requires
+    returns-4)

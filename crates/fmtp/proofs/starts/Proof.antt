@@ -4,32 +4,38 @@ use Prim.Native.Nat.{_-_}
 use mathlib.Core.Path.{_∙_, sym}
 use lib.ListN.{length}
 use native.Mathlib.Omega.{arith}
-use Rattle.fmtp.proofs.Words.{starts-short, Compared, compared-start, compared-same, compared-other, compared-end}
-use borrow.Author.Needs.{needs}
+use borrow.Author.Tests.{not-true, not-false}
+use Rattle.fmtp.proofs.Words.{word-octet, Compared, compared-short, compared-start, compared-same, compared-other, compared-end}
 
 abbrev Inv-loop : tie.InvT-loop
-Inv-loop text word i₀ i = Compared word text i
+Inv-loop text at word i₀ i = Compared word text at i
 
 abbrev μ-loop : tie.MeasureT-loop
-μ-loop text word i₀ i = length word - i
+μ-loop text at word i₀ i = length word - i
+
+sub-if1 : tie.Need-sub-if1 Inv-loop μ-loop
+sub-if1 c = omega arith
 
 returns : tie.Need-returns Inv-loop μ-loop
-returns c = starts-short (c .before .before .before .args .word .now) (c .before .before .before .args .text .now) (c .if1 .taken)
+returns c = compared-short (c .before .before .before .args .word .now) (c .before .before .before .args .text .now) _ (c .before .before .before .pre .0) (c .if1 .taken)
 
 loop-holds : tie.Need-loop-holds Inv-loop μ-loop
-loop-holds c = compared-start _ _ (c .if1 .left)
+loop-holds c = compared-start _ _ _ (c .before .before .before .pre .0) (c .if1 .left)
 
-shared-slice-read-fold : tie.Need-shared-slice-read-fold Inv-loop μ-loop
-shared-slice-read-fold c = omega (arith, c .before .before .loop .inv .room)
+add-same : tie.Need-add-same Inv-loop μ-loop
+add-same c = omega (arith, c .before .loop .inv .room)
 
-fold-requires : tie.Need-fold-requires Inv-loop μ-loop
-fold-requires c κs = search needs
+shared-slice-read-same : tie.Need-shared-slice-read-same Inv-loop μ-loop
+shared-slice-read-same c = omega (arith, c .before .before .loop .inv .room)
 
-shared-slice-read-if2 : tie.Need-shared-slice-read-if2 Inv-loop μ-loop
-shared-slice-read-if2 c = omega arith
+shared-slice-read-same-2 : tie.Need-shared-slice-read-same-2 Inv-loop μ-loop
+shared-slice-read-same-2 c = omega arith
+
+same-requires : tie.Need-same-requires Inv-loop μ-loop
+same-requires c κs = word-octet _ _ (c .before .before .before .before .before .before .before .pre .1)
 
 returns-2 : tie.Need-returns-2 Inv-loop μ-loop
-returns-2 c = compared-other _ _ _ (c .before .before .before .before .before .loop .inv) (c .before .before .before .before .loop-test .taken) (λ e. c .if2 .taken (c .before .before .fold .ensures ∙ e))
+returns-2 c = compared-other _ _ _ _ (c .before .before .before .before .before .loop .inv) (c .before .before .before .before .loop-test .taken) (sym (not-true _ (c .if2 .taken)) ∙ c .before .same .ensures)
 
 add-i : tie.Need-add-i Inv-loop μ-loop
 add-i c = omega arith
@@ -38,10 +44,10 @@ loop-less : tie.Need-loop-less Inv-loop μ-loop
 loop-less c = omega arith
 
 loop-again : tie.Need-loop-again Inv-loop μ-loop
-loop-again c = compared-same _ _ _ (c .before .before .before .before .before .loop .inv) (c .before .before .before .before .loop-test .taken) (sym (c .before .before .fold .ensures) ∙ c .if2 .left)
+loop-again c = compared-same _ _ _ _ (c .before .before .before .before .before .loop .inv) (c .before .before .before .before .loop-test .taken) (sym (not-false _ (c .if2 .left)) ∙ c .before .same .ensures)
 
 returns-3 : tie.Need-returns-3 Inv-loop μ-loop
-returns-3 c = compared-end _ _ _ (c .before .loop .inv) (c .loop-test .left)
+returns-3 c = compared-end _ _ _ _ (c .before .loop .inv) (c .loop-test .left)
 
 pub starts-spec : {M : Type 1} → statement M
 starts-spec =
@@ -49,11 +55,13 @@ starts-spec =
     (tie.spec
     Inv-loop
     μ-loop
+    sub-if1
     returns
     loop-holds
-    shared-slice-read-fold
-    fold-requires
-    shared-slice-read-if2
+    add-same
+    shared-slice-read-same
+    shared-slice-read-same-2
+    same-requires
     returns-2
     add-i
     loop-less
