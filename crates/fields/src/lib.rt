@@ -182,6 +182,7 @@ pub fn unpack(mode: u8, body: &[u8], fields: &mut [u16]) -> Unpacked
             place: 6,
         });
     }
+    // The answer is made anew: handed on as it is, the refusals above would go through memory too.
     let answer = take(mode, turned(word_of(body)), fields);
     match answer {
         Unpacked::Fields(count) => Unpacked::Fields(count),
