@@ -89,10 +89,11 @@ kindOf n =
     cond (eqb n (number bps2400)) bps2400
     (cond (eqb n (number tsvcis)) tsvcis (cond (eqb n (number bps600)) bps600 (cond (eqb n (number bps1200)) bps1200 noise)))
 
--- the kind and the TC of the row at an index
+-- the kind of the row at an index
 abbrev pub kindAt : List ℕ → ℕ → Kind
 kindAt ns at = kindOf (getD ns at 0)
 
+-- its TC
 abbrev pub tcAt : List ℕ → ℕ → ℕ
 tcAt ns at = getD ns (at + 1) 0
 
