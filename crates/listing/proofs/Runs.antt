@@ -14,10 +14,7 @@ use Rattle.leb128.specs.declared.Group.the-variants.{More, Last, Bad}
 use Rattle.leb128.proofs.Steps.{below-or}
 use Rattle.listing.specs.Listing.{following, Position, inLength, inPayload, broken, Turn, silent, emit, begin, grouped, filled, next, behind, run}
 
--- no output before a turn changes nothing; two outputs before it are one
-behind-nil : (t : Turn) → behind [] t ≡ t
-behind-nil t = refl
-
+-- two outputs before a turn are one
 behind-behind : (a b : List ℕ) (t : Turn) → behind a (behind b t) ≡ behind (a ++ b) t
 behind-behind a b t = ap (λ (o : List ℕ). record { output = o; lines = t .lines; position = t .position }) (sym (append-assoc a b (t .output)))
 
