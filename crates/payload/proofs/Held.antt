@@ -1,9 +1,11 @@
 -- What the loop that walks a payload keeps: it is at a state of the walk, and holds the numbers of the frames read.
 use mathlib.Core.Path.{_≡_, refl, sym, ap, _∙_, subst}
+use mathlib.Core.Logic.{_⊎_, inl, inr}
 use mathlib.Core.Bool.{Bool, true, false, cond}
 use mathlib.Core.List.{List, [], _∷_}
 use Prim.Native.Nat.{ℕ, zero, suc, _+_, _-_, _*_, _≤_, _<_}
 use native.Mathlib.Omega.{arith}
+use lib.Dec.{ltb}
 use lib.ListN.{length, take, length-append, length-set}
 use borrow.Author.Tests.{lt-ltb, le-ltb}
 use Rattle.wire.specs.Frame.{Frame, Kind, bps2400, bps1200, bps600, noise, tsvcis, LegalTc, Octets, number, size, rate, countOf, wireLength, bodiesOf}
@@ -11,7 +13,8 @@ use Rattle.wire.specs.Walk.{Ending, bad, got, lastFrame, beside, late, clash, s
 use Rattle.wire.specs.declared.Shape.{Shape}
 use Rattle.wire.specs.declared.Found.{Found}
 use Rattle.wire.specs.declared.Found.the-variants.{Bad, Got}
-use Rattle.wire.proofs.Tables.{size-pos, tc-most}
+use Rattle.wire.proofs.Tables.{below-or, size-pos, tc-most}
+use Rattle.wire.proofs.Steps.{beside-some}
 use Rattle.wire.proofs.Complete.{next-at, stay}
 use Rattle.wire.proofs.Ended.{Whole, Wholes, last-says}
 use Rattle.wire.proofs.Sound.{run-refused, length-base}
@@ -68,6 +71,7 @@ pub record Held (p : List ℕ) (u n q s : ℕ) : Type 0 where
   pub octets : q + length (bodiesOf later) + u ≡ length p
   pub rates : s ≡ seen later
   pub few : n + u ≤ length p
+  pub first : n ≡ 0 → u ≡ length p
   pub short : length p ≤ 1400
   pub same : run fuel p (at u later) ≡ readOf p
 
@@ -85,6 +89,7 @@ held-start p h = record {
   octets = omega arith;
   rates = refl;
   few = omega arith;
+  first = λ e. refl;
   short = h;
   same = simp (le-ltb 1400 (length p) h);
 }
@@ -99,16 +104,24 @@ module _ (p : List ℕ) (u n q s : ℕ) (h : Held p u n q s) (pos : 1 ≤ u) whe
   here : Ending
   here = beside n s (lastFrame p u)
 
+  -- octets are read behind the unread ones if frames are
+  behind : (0 < n) ⊎ (n ≤ 0) → ltb 0 (length p - u) ≡ ltb 0 n
+  behind (inl l) = lt-ltb 0 (length p - u) (omega (arith, h .few)) ∙ sym (lt-ltb 0 n l)
+  behind (inr l) = le-ltb 0 (length p - u) (omega (arith, h .first (omega arith))) ∙ sym (le-ltb 0 n l)
+
   -- what the code found is what the walk finds
-  there : {f : Found} → f ≡ foundOf (beside n s (lastFrame (take u p) (length (take u p)))) → f ≡ foundOf here
+  there : {f : Found} → f ≡ foundOf (beside (length p - u) s (lastFrame (take u p) (length (take u p)))) → f ≡ foundOf here
   unfolding here
-  there b = b ∙ ap (λ (e : Ending). foundOf (beside n s e)) (last-take p u (omega (arith, h .few)))
+  there b =
+      b
+      ∙ ap (λ (e : Ending). foundOf (beside (length p - u) s e)) (last-take p u (omega (arith, h .few)))
+      ∙ ap foundOf (beside-some (length p - u) n s (behind (below-or 0 n)) (lastFrame p u))
 
   turns : (e : Ending) → here ≡ e → next p (at u (h .later)) ≡ turn p u (h .later) e
   unfolding here
   turns e i = next-at p u (h .later) pos ∙ ap (turn p u (h .later)) (rw (h .frames, h .rates) at i)
 
-  pub held-bad : (x : ℕ) {f : Found} → f ≡ Bad x → f ≡ foundOf (beside n s (lastFrame (take u p) (length (take u p))))
+  pub held-bad : (x : ℕ) {f : Found} → f ≡ Bad x → f ≡ foundOf (beside (length p - u) s (lastFrame (take u p) (length (take u p))))
       → walked.Refused (refuse x u) ≡ walkedOf (readOf p)
   held-bad x a b = go (h .fuel) (h .enough) (h .same)
     where
@@ -116,7 +129,7 @@ module _ (p : List ℕ) (u n q s : ℕ) (h : Held p u n q s) (pos : 1 ≤ u) whe
       go zero l e = absurd (omega arith)
       go (suc f) l e = rw (← e, turns (bad x) (bad-is here x a (there b)), run-refused f p x u (h .later))
 
-  module _ (o : Octets p) (x : Shape) {f : Found} (a : f ≡ Got x) (b : f ≡ foundOf (beside n s (lastFrame (take u p) (length (take u p))))) where
+  module _ (o : Octets p) (x : Shape) {f : Found} (a : f ≡ Got x) (b : f ≡ foundOf (beside (length p - u) s (lastFrame (take u p) (length (take u p))))) where
     sh : Shaped here x
     sh = shaped here x a (there b)
 
@@ -143,6 +156,7 @@ module _ (p : List ℕ) (u n q s : ℕ) (h : Held p u n q s) (pos : 1 ≤ u) whe
           octets = simp length-append (omega (arith, h .octets, body, w .room));
           rates = refl;
           few = omega (arith, h .few, size-pos k, w .room);
+          first = λ z. absurd (omega arith);
           short = h .short;
           same = ap (run f p) (sym (turns (got k t) e)) ∙ r;
         }

@@ -158,39 +158,38 @@ module _ (p : List ℕ) (x : Extent) (w : Went p x) where
   rated : x .rate ≡ seen (w .fs)
   rated = ap (λ (y : Extent). y .rate) (w .is)
 
-  pub ticks-none : {n : ℕ} → n ≡ ticksOfRate (x .rate) → n ≡ 0 → 0 ≡ ticksIn (readOf p)
-  ticks-none e z = sym (in-all ∙ first-none (w .legal .0) (w .fs) (w .legal .1) (ap ticksOfRate (sym rated) ∙ sym e ∙ z))
+  -- a payload with octets has a frame
+  some-frame : (gs : List Frame) → octetsOf gs ≡ p → 1 ≤ length p → 1 ≤ length gs
+  some-frame [] g h = absurd (omega (arith, ap length g))
+  some-frame (f ∷ gs) g h = omega arith
 
-  module _ {n : ℕ} (e : n ≡ ticksOfRate (x .rate)) (some : n ≡ 0 → ⊥) where
-    -- the first frame is a coder frame of the sequence's rate
-    same-rate : n ≡ ticksOfRate (w .legal .0)
-    same-rate = go (seen-of (w .legal .0) (w .fs) (w .legal .1))
-      where
-        go : (seen (w .fs) ≡ 0) ⊎ (seen (w .fs) ≡ w .legal .0) → n ≡ ticksOfRate (w .legal .0)
-        go (inl z) = absurd (some (e ∙ ap ticksOfRate (rated ∙ z) ∙ sym (ticks-of-kind noise)))
-        go (inr q) = e ∙ ap ticksOfRate (rated ∙ q)
+  pub ticks-none : length p ≡ 0 → 0 ≡ ticksIn (readOf p)
+  ticks-none z = go (w .fs) (w .gives) (w .legal .1) in-all
+    where
+      go : (gs : List Frame) → octetsOf gs ≡ p → OfRate (w .legal .0) gs → ticksIn (readOf p) ≡ ticksOf gs → 0 ≡ ticksIn (readOf p)
+      go [] g o e = sym e
+      go (f ∷ gs) g o e =
+          absurd (omega (arith, ap length g, length-append (wire f) (octetsOf gs), length-wire (f .kind) (f .tc) (f .body) (o .0 .long), size-pos (f .kind)))
 
-    -- so there is a frame
+  module _ {n : ℕ} (e : n ≡ ticksOfRate (x .rate)) (some : 1 ≤ length p) where
     pub has-frame : 1 ≤ x .frames
-    has-frame = go (w .fs) frames rated
-      where
-        go : (gs : List Frame) → x .frames ≡ length gs → x .rate ≡ seen gs → 1 ≤ x .frames
-        go [] a b = absurd (some (e ∙ ap ticksOfRate b ∙ sym (ticks-of-kind noise)))
-        go (g ∷ gs) a b = omega arith
-
-    pub has-octets : 1 ≤ length p
-    has-octets = go (w .fs) frames (w .gives) (w .legal .1)
-      where
-        go : (gs : List Frame) → x .frames ≡ length gs → octetsOf gs ≡ p → OfRate (w .legal .0) gs → 1 ≤ length p
-        go [] a g o = absurd (omega (arith, has-frame))
-        go (f ∷ gs) a g o =
-            omega (arith, ap length g, length-append (wire f) (octetsOf gs), length-wire (f .kind) (f .tc) (f .body) (o .0 .long), size-pos (f .kind))
+    has-frame = omega (arith, frames, some-frame (w .fs) (w .gives) some)
 
     pub product : n * x .frames ≤ 144000
     product = omega (arith, mul-comm n (x .frames), product-most (x .frames) n (x .rate) (omega (arith, frames, frames-most (w .fs) (w .legal))) e)
 
+    -- a sequence whose first frame is comfort noise lasts no ticks, and all others are of the first frame's rate
     all : ticksOf (w .fs) + n * noises (w .fs) ≡ n * length (w .fs)
-    all = rw same-rate (all-ticks (w .legal .0) (w .fs) (w .legal .1))
+    all = go (seen-of (w .legal .0) (w .fs) (w .legal .1))
+      where
+        go : (seen (w .fs) ≡ 0) ⊎ (seen (w .fs) ≡ w .legal .0) → ticksOf (w .fs) + n * noises (w .fs) ≡ n * length (w .fs)
+        go (inl z) =
+            let none : ticksOfRate (seen (w .fs)) ≡ 0 = ap ticksOfRate z ∙ sym (ticks-of-kind noise) in
+            let zero-each : n ≡ 0 = e ∙ ap ticksOfRate rated ∙ none in
+            rw zero-each (omega (arith, first-none (w .legal .0) (w .fs) (w .legal .1) none))
+        go (inr q) =
+            let same-rate : n ≡ ticksOfRate (w .legal .0) = e ∙ ap ticksOfRate (rated ∙ q) in
+            rw same-rate (all-ticks (w .legal .0) (w .fs) (w .legal .1))
 
     told : Tells (getD p (length p - 1) 0) (noises (w .fs))
     told = subst (λ (y : List ℕ). Tells (getD y (length y - 1) 0) (noises (w .fs))) (w .gives)

@@ -61,7 +61,7 @@ pub fn walk(payload: &[u8]) -> Walked
     let mut counts: usize = 0;
     let mut rate: u32 = 0;
     while 0 < unread {
-        let found = wire::step(&payload[..unread], frames, rate);
+        let found = wire::step(&payload[..unread], payload.len() - unread, rate);
         match found {
             Found::Bad(number) => {
                 return Walked::Refused(Refusal {
@@ -89,11 +89,12 @@ fn ticks_in(payload: &[u8], extent: Extent) -> usize
     requires { ⌜ Went (now payload) extent ⌝ }
     ensures { λ r. ⌜ r ≡ ticksIn (readOf (now (payload .entry))) ⌝ }
 {
-    let each = wire::ticks_of_rate(extent.rate);
-    if each == 0 {
+    let n = payload.len();
+    if n == 0 {
         return 0;
     }
-    let x = payload[payload.len() - 1];
+    let each = wire::ticks_of_rate(extent.rate);
+    let x = payload[n - 1];
     if x < 160 {
         return each * extent.frames;
     }

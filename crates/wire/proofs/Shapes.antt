@@ -2,100 +2,72 @@
 use mathlib.Core.Path.{_≡_, refl, sym, ap, _∙_}
 use mathlib.Core.Logic.{_⊎_, inl, inr}
 use mathlib.Core.Bool.{Bool, true, false, cond}
-use mathlib.Core.List.{List, []}
+use mathlib.Core.List.{List}
 use Prim.Native.Nat.{ℕ, _+_, _-_, _≤_, _<_}
 use native.Mathlib.Omega.{arith}
 use lib.Dec.{ltb}
-use lib.ListN.{getD}
-use borrow.Author.Tests.{lt-ltb, le-ltb, ne-eqb, eq-eqb}
-use Rattle.wire.specs.Frame.{Kind, bps2400, bps1200, bps600, noise, tsvcis, LegalTc, size, rate, wireLength}
-use Rattle.wire.specs.Walk.{Ending, bad, got, counted, ending, foreign, whole, lastFrame, clash, late, beside, shapeOf, foundOf}
-use Rattle.wire.specs.Step.{besideShape, wholeShape, Augmented}
+use lib.ListN.{getD, length}
+use borrow.Author.Tests.{lt-ltb, le-ltb}
+use Rattle.wire.specs.Frame.{Kind, bps2400, bps1200, bps600, noise, tsvcis, size, rate, wireLength}
+use Rattle.wire.specs.Walk.{Ending, bad, got, named, counted, ending, foreign, whole, lastFrame, clash, late, beside, shapeOf, foundOf}
+use Rattle.wire.specs.Step.{noiseShape, basedShape, fitShape, fitted, ByKind, CountEnd}
 use Rattle.wire.specs.declared.Shape.{Shape}
 use Rattle.wire.specs.declared.Found.{Found}
 use Rattle.wire.specs.declared.Found.the-variants.{Bad, Got}
 use Rattle.wire.proofs.Tables.{below-or, Counts, short, long, counts}
-use Rattle.wire.proofs.Steps.{clash-none, clash-same, clash-two, counted-zero, counted-short, counted-long}
+use Rattle.wire.proofs.Steps.{clash-left, clash-none, clash-same, clash-two, named-1200, named-foreign, named-short, counted-zero, counted-short, counted-long, ending-one, ending-alone, ending-two}
 
-module _ (later s : ℕ) (x : Shape) where
-  pub allow-late : x .rate ≡ 0 → 0 < later → Bad 6 ≡ besideShape later s x
-  unfolding besideShape
-  allow-late e h = simp (eq-eqb (x .rate) 0 e, lt-ltb 0 later h)
+-- ---- comfort noise
 
-  pub allow-noise : x .rate ≡ 0 → later ≤ 0 → Got x ≡ besideShape later s x
-  unfolding besideShape
-  allow-noise e h = simp (eq-eqb (x .rate) 0 e, le-ltb 0 later h)
+pub noise-cut : (u later : ℕ) → u < wireLength noise 0 → Bad 2 ≡ noiseShape u later
+unfolding noiseShape
+noise-cut u later h = simp (lt-ltb u (wireLength noise 0) h)
 
-  pub allow-same : (x .rate ≡ 0 → ⊥) → s ≡ x .rate → Got x ≡ besideShape later s x
-  unfolding besideShape
-  allow-same n e = simp (ne-eqb (x .rate) 0 n, clash-same (x .rate) s (sym e))
+pub noise-late : (u later : ℕ) → wireLength noise 0 ≤ u → 0 < later → Bad 6 ≡ noiseShape u later
+unfolding noiseShape
+noise-late u later h l = simp (le-ltb u (wireLength noise 0) h, lt-ltb 0 later l)
 
-  pub allow-first : (x .rate ≡ 0 → ⊥) → s ≡ 0 → Got x ≡ besideShape later s x
-  unfolding besideShape
-  allow-first n e = simp (ne-eqb (x .rate) 0 n, clash-none (x .rate) s e)
+pub noise-last : (u later : ℕ) → wireLength noise 0 ≤ u → later ≤ 0 → Got (shapeOf noise 0) ≡ noiseShape u later
+unfolding noiseShape
+noise-last u later h l = simp (le-ltb u (wireLength noise 0) h, le-ltb 0 later l)
 
-  pub allow-clash : (x .rate ≡ 0 → ⊥) → (s ≡ x .rate → ⊥) → (s ≡ 0 → ⊥) → Bad 8 ≡ besideShape later s x
-  unfolding besideShape
-  allow-clash n d z = simp (ne-eqb (x .rate) 0 n, clash-two (x .rate) s n z (λ e. d (sym e)))
+-- ---- augmentation
 
-  module _ (p : List ℕ) (u : ℕ) where
-    pub admit-cut : u < x .wire → Bad 2 ≡ wholeShape p u later s x
-    unfolding wholeShape
-    admit-cut h = simp (lt-ltb u (x .wire) h)
+module _ (p : List ℕ) (u : ℕ) (x : Shape) where
+  pub based-cut : u < x .wire → Bad 2 ≡ basedShape p u x
+  unfolding basedShape
+  based-cut h = simp (lt-ltb u (x .wire) h)
 
-    pub admit-plain : x .wire ≤ u → x .tc ≡ 0 → besideShape later s x ≡ wholeShape p u later s x
-    unfolding wholeShape
-    admit-plain h e = simp (le-ltb u (x .wire) h, eq-eqb (x .tc) 0 e)
+  pub based-foreign : x .wire ≤ u → 63 < getD p (u - x .wire + 6) 0 → Bad 7 ≡ basedShape p u x
+  unfolding basedShape
+  based-foreign h b = simp (le-ltb u (x .wire) h, lt-ltb 63 (getD p (u - x .wire + 6) 0) b)
 
-    pub admit-foreign : x .wire ≤ u → (x .tc ≡ 0 → ⊥) → 63 < getD p (u - x .wire + 6) 0 → Bad 7 ≡ wholeShape p u later s x
-    unfolding wholeShape
-    admit-foreign h e b = simp (le-ltb u (x .wire) h, ne-eqb (x .tc) 0 e, lt-ltb 63 (getD p (u - x .wire + 6) 0) b)
+  pub based-got : x .wire ≤ u → getD p (u - x .wire + 6) 0 ≤ 63 → Got x ≡ basedShape p u x
+  unfolding basedShape
+  based-got h b = simp (le-ltb u (x .wire) h, le-ltb 63 (getD p (u - x .wire + 6) 0) b)
 
-    pub admit-based : x .wire ≤ u → (x .tc ≡ 0 → ⊥) → getD p (u - x .wire + 6) 0 ≤ 63 → besideShape later s x ≡ wholeShape p u later s x
-    unfolding wholeShape
-    admit-based h e b = simp (le-ltb u (x .wire) h, ne-eqb (x .tc) 0 e, le-ltb 63 (getD p (u - x .wire + 6) 0) b)
+-- ---- length and rate
 
--- ---- the walk's own words
+module _ (u s : ℕ) (x : Shape) where
+  pub fit-cut : u < x .wire → Bad 2 ≡ fitShape u s x
+  unfolding fitShape
+  fit-cut h = simp (lt-ltb u (x .wire) h)
 
-choose : (k : Kind) (t n : ℕ) (b : Bool) → cond b (Bad n) (Got (shapeOf k t)) ≡ foundOf (cond b (bad n) (got k t))
-choose k t n true = refl
-choose k t n false = refl
+  pub fit-same : x .wire ≤ u → s ≡ x .rate → Got x ≡ fitShape u s x
+  unfolding fitShape
+  fit-same h e = simp (le-ltb u (x .wire) h, clash-same (x .rate) s (sym e))
 
-beside-shape : (later s : ℕ) (k : Kind) (t : ℕ) → besideShape later s (shapeOf k t) ≡ foundOf (beside later s (got k t))
-unfolding besideShape beside clash
-beside-shape later s bps2400 t = choose bps2400 t 8 (clash 2400 s)
-beside-shape later s bps1200 t = choose bps1200 t 8 (clash 1200 s)
-beside-shape later s bps600 t = choose bps600 t 8 (clash 600 s)
-beside-shape later s noise t = choose noise t 6 (late noise later)
-beside-shape later s tsvcis t = choose tsvcis t 8 (clash 2400 s)
+  pub fit-first : x .wire ≤ u → s ≡ 0 → Got x ≡ fitShape u s x
+  unfolding fitShape
+  fit-first h e = simp (le-ltb u (x .wire) h, clash-none (x .rate) s e)
 
-module _ (p : List ℕ) (u later s : ℕ) where
-  -- a frame without augmentation
-  plain-shape : (k : Kind) (t : ℕ) → t ≡ 0 → ((x : ℕ) → foreign k x ≡ false) → (u < wireLength k t) ⊎ (wireLength k t ≤ u)
-      → wholeShape p u later s (shapeOf k t) ≡ foundOf (beside later s (whole p u (got k t)))
-  unfolding whole beside
-  plain-shape k t z f (inl h) = sym (admit-cut later s (shapeOf k t) p u h) ∙ simp (lt-ltb u (wireLength k t) h)
-  plain-shape k t z f (inr h) =
-      sym (admit-plain later s (shapeOf k t) p u h z) ∙ beside-shape later s k t ∙ simp (le-ltb u (wireLength k t) h, f (getD p (u - wireLength k t + (size k - 1)) 0))
+  pub fit-noise : x .wire ≤ u → x .rate ≡ 0 → Got x ≡ fitShape u s x
+  unfolding fitShape
+  fit-noise h e = simp (le-ltb u (x .wire) h, clash-left (x .rate) s e)
 
-  tsvcis-shape : (t : ℕ) → (t ≡ 0 → ⊥) → (u < wireLength tsvcis t) ⊎ (wireLength tsvcis t ≤ u)
-      → (63 < getD p (u - wireLength tsvcis t + 6) 0) ⊎ (getD p (u - wireLength tsvcis t + 6) 0 ≤ 63)
-      → wholeShape p u later s (shapeOf tsvcis t) ≡ foundOf (beside later s (whole p u (got tsvcis t)))
-  unfolding whole beside
-  tsvcis-shape t z (inl h) b = sym (admit-cut later s (shapeOf tsvcis t) p u h) ∙ simp (lt-ltb u (wireLength tsvcis t) h)
-  tsvcis-shape t z (inr h) (inl b) =
-      sym (admit-foreign later s (shapeOf tsvcis t) p u h z b) ∙ simp (le-ltb u (wireLength tsvcis t) h, lt-ltb 63 (getD p (u - wireLength tsvcis t + 6) 0) b)
-  tsvcis-shape t z (inr h) (inr b) =
-      sym (admit-based later s (shapeOf tsvcis t) p u h z b)
-      ∙ beside-shape later s tsvcis t
-      ∙ simp (le-ltb u (wireLength tsvcis t) h, le-ltb 63 (getD p (u - wireLength tsvcis t + 6) 0) b)
-
-  whole-shape : (k : Kind) (t : ℕ) → LegalTc k t → wholeShape p u later s (shapeOf k t) ≡ foundOf (beside later s (whole p u (got k t)))
-  whole-shape bps2400 t l = plain-shape bps2400 t l (λ x. refl) (below-or u (wireLength bps2400 t))
-  whole-shape bps1200 t l = plain-shape bps1200 t l (λ x. refl) (below-or u (wireLength bps1200 t))
-  whole-shape bps600 t l = plain-shape bps600 t l (λ x. refl) (below-or u (wireLength bps600 t))
-  whole-shape noise t l = plain-shape noise t l (λ x. refl) (below-or u (wireLength noise t))
-  whole-shape tsvcis t l = tsvcis-shape t (λ e. omega arith) (below-or u (wireLength tsvcis t)) (below-or 63 (getD p (u - wireLength tsvcis t + 6) 0))
+  pub fit-clash : x .wire ≤ u → (s ≡ x .rate → ⊥) → (s ≡ 0 → ⊥) → (x .rate ≡ 0 → ⊥) → Bad 8 ≡ fitShape u s x
+  unfolding fitShape
+  fit-clash h d z n = simp (le-ltb u (x .wire) h, clash-two (x .rate) s n z (λ e. d (sym e)))
 
 -- ---- what the code found, as the walk has it
 
@@ -114,59 +86,126 @@ pub bad-is : (e : Ending) (n : ℕ) {f : Found} → f ≡ Bad n → f ≡ foundO
 bad-is (bad m) n a b = let q : m ≡ n = cc in ap bad q
 bad-is (got k t) n a b = absurd (let z : _≡_ {A = ℕ} 0 1 = cc in omega arith)
 
--- ---- the step, kind by kind: x is the shape that the code made, r what it answered
+-- ---- the step, kind by kind
 
-module _ (p : List ℕ) (u later s : ℕ) where
-  pub step-bad : (n : ℕ) → ending p u ≡ bad n → Bad n ≡ foundOf (beside later s (lastFrame p u))
-  unfolding lastFrame whole beside
-  step-bad n e = rw e
+choose : (k : Kind) (t n : ℕ) (b : Bool) → cond b (Bad n) (Got (shapeOf k t)) ≡ foundOf (cond b (bad n) (got k t))
+choose k t n true = refl
+choose k t n false = refl
 
-  step-is : (k : Kind) (t : ℕ) → LegalTc k t → ending p u ≡ got k t → wholeShape p u later s (shapeOf k t) ≡ foundOf (beside later s (lastFrame p u))
-  unfolding lastFrame
-  step-is k t l e = rw e (whole-shape p u later s k t l)
+module _ (p : List ℕ) (u : ℕ) where
+  -- a coder frame that u octets hold whole
+  fit-coder : (later s : ℕ) (k : Kind) (t : ℕ) → late k later ≡ false → ltb u (wireLength k t) ≡ false → fitShape u s (shapeOf k t) ≡ foundOf (beside later s (got k t))
+  unfolding fitShape beside
+  fit-coder later s k t e h = simp (e, h) (choose k t 8 (clash (rate k) s))
 
-  -- neither the octets before a frame without augmentation matter, nor for a coder frame how many are behind it
-  pub plain-step : (k : Kind) → LegalTc k 0 → (rate k ≡ 0 → ⊥) → ending p u ≡ got k 0 → {x : Shape} {r : Found} → x ≡ shapeOf k 0 → r ≡ wholeShape [] u 0 s x
-      → r ≡ foundOf (beside later s (lastFrame p u))
-  unfolding wholeShape besideShape
-  plain-step k l h e ex er =
-      let same : wholeShape [] u 0 s (shapeOf k 0) ≡ wholeShape p u later s (shapeOf k 0) = simp (ne-eqb (rate k) 0 h) in
-      er ∙ ap (wholeShape [] u 0 s) ex ∙ same ∙ step-is k 0 l e
+  -- a coder frame without augmentation
+  plain-fits : (later s : ℕ) (k : Kind) → late k later ≡ false → ((x : ℕ) → foreign k x ≡ false) → (b : Bool) → ltb u (wireLength k 0) ≡ b
+      → fitShape u s (shapeOf k 0) ≡ foundOf (beside later s (whole p u (got k 0)))
+  unfolding whole beside fitShape
+  plain-fits later s k e f true h = simp h
+  plain-fits later s k e f false h = fit-coder later s k 0 e h ∙ simp (h, f (getD p (u - wireLength k 0 + (size k - 1)) 0))
 
-  pub noise-step : ending p u ≡ got noise 0 → {r : Found} → r ≡ wholeShape [] u later 0 (shapeOf noise 0) → r ≡ foundOf (beside later s (lastFrame p u))
-  unfolding wholeShape besideShape
-  noise-step e er = er ∙ step-is noise 0 refl e
-
-  pub tsvcis-step : (t : ℕ) → LegalTc tsvcis t → ending p u ≡ got tsvcis t → {x : Shape} {r : Found} → x ≡ shapeOf tsvcis t → r ≡ wholeShape p u 0 s x
-      → r ≡ foundOf (beside later s (lastFrame p u))
-  unfolding wholeShape besideShape
-  tsvcis-step t l e ex er = er ∙ ap (wholeShape p u 0 s) ex ∙ step-is tsvcis t l e
-
-  -- the octet before a last octet of 255 names no comfort noise
-  pub long-step : (t : ℕ) → ending p u ≡ counted t → {r : Found} → r ≡ foundOf (beside 0 s (whole p u (counted t))) → r ≡ foundOf (beside later s (lastFrame p u))
-  unfolding lastFrame whole beside
-  long-step t e er = er ∙ ap foundOf (go (below-or 0 t) (counts t) ∙ ap (λ (y : Ending). beside later s (whole p u y)) (sym e))
+  -- a frame that was looked at whole, put to its rate
+  whole-fits : (later s : ℕ) (e : Ending) → ((k : Kind) (t : ℕ) → e ≡ got k t → late k later ≡ false)
+      → fitted u s (foundOf (whole p u e)) ≡ foundOf (beside later s (whole p u e))
+  unfolding whole beside
+  whole-fits later s (bad n) h = refl
+  whole-fits later s (got k t) h = go (ltb u (wireLength k t)) (foreign k (getD p (u - wireLength k t + (size k - 1)) 0)) refl
     where
-      kept : (a b : Bool) → beside 0 s (cond a (bad 2) (cond b (bad 7) (got tsvcis t))) ≡ beside later s (cond a (bad 2) (cond b (bad 7) (got tsvcis t)))
-      kept true b = refl
-      kept false true = refl
-      kept false false = refl
+      go : (a b : Bool) → ltb u (wireLength k t) ≡ a
+          → fitted u s (foundOf (cond a (bad 2) (cond b (bad 7) (got k t)))) ≡ foundOf (beside later s (cond a (bad 2) (cond b (bad 7) (got k t))))
+      go true b e = refl
+      go false true e = refl
+      go false false e = fit-coder later s k t (h k t refl) e
 
-      go : (0 < t) ⊎ (t ≤ 0) → Counts t → beside 0 s (whole p u (counted t)) ≡ beside later s (whole p u (counted t))
-      go (inr z) c = rw (counted-zero t (omega arith))
-      go (inl z) (short a b) = rw (counted-short t a b)
-      go (inl z) (long c) = rw (counted-long t z c) (kept (ltb u (wireLength tsvcis t)) (ltb 63 (getD p (u - wireLength tsvcis t + 6) 0)))
+  pub kind-bad : (later n : ℕ) → ending p u ≡ bad n → ByKind p u later (Bad n)
+  unfolding lastFrame whole beside
+  kind-bad later n e = record { steps = λ s. rw e }
 
-  pub long-got : (t : ℕ) → 1 ≤ t → t ≤ 255 → (t < 15) ⊎ (77 < t) → {x : Shape} {r : Found} → x ≡ shapeOf tsvcis t → r ≡ wholeShape p u 0 s x
-      → r ≡ foundOf (beside 0 s (whole p u (counted t)))
-  long-got t a b h ex er = er ∙ ap (wholeShape p u 0 s) ex ∙ whole-shape p u 0 s tsvcis t (a, b) ∙ ap (λ (y : Ending). foundOf (beside 0 s (whole p u y))) (sym (counted-long t a h))
+  plain-steps : (later s : ℕ) (k : Kind) → late k later ≡ false → ((x : ℕ) → foreign k x ≡ false) → ending p u ≡ got k 0
+      → fitShape u s (shapeOf k 0) ≡ foundOf (beside later s (lastFrame p u))
+  unfolding lastFrame
+  plain-steps later s k h f e = rw e (plain-fits later s k h f (ltb u (wireLength k 0)) refl)
 
-  pub long-bad : (t n : ℕ) → counted t ≡ bad n → Bad n ≡ foundOf (beside 0 s (whole p u (counted t)))
-  unfolding beside whole
-  long-bad t n e = rw e
+  pub kind-plain : (later : ℕ) (k : Kind) → late k later ≡ false → ((x : ℕ) → foreign k x ≡ false) → ending p u ≡ got k 0 → {x : Shape} → x ≡ shapeOf k 0
+      → ByKind p u later (Got x)
+  kind-plain later k h f e ex = record { steps = λ s. ap (fitShape u s) ex ∙ plain-steps later s k h f e }
 
-pub augmented : (t : ℕ) → 1 ≤ t → {x : Shape} → x ≡ shapeOf tsvcis t → Augmented x
-augmented t h e = rw e (record { some = λ z. omega arith; based = omega arith; rated = λ z. omega arith })
+  noise-steps : (later s : ℕ) (a b : Bool) → ltb u (wireLength noise 0) ≡ a → ltb 0 later ≡ b → ending p u ≡ got noise 0 → fitted u s (noiseShape u later) ≡ foundOf (beside later s (lastFrame p u))
+  unfolding lastFrame whole beside noiseShape fitShape
+  noise-steps later s true b ha hb e = rw e (simp ha)
+  noise-steps later s false true ha hb e = rw e (simp (ha, hb))
+  noise-steps later s false false ha hb e = rw e (simp (ha, hb, clash-left 0 s refl))
 
-pub plain : (k : Kind) → (rate k ≡ 0 → ⊥) → {x : Shape} → x ≡ shapeOf k 0 → (x .tc ≡ 0) × (x .rate ≡ 0 → ⊥)
-plain k h e = rw e (refl, h)
+  pub kind-noise : (later : ℕ) → ending p u ≡ got noise 0 → {r : Found} → r ≡ noiseShape u later → ByKind p u later r
+  kind-noise later e er = record { steps = λ s. ap (fitted u s) er ∙ noise-steps later s (ltb u (wireLength noise 0)) (ltb 0 later) refl refl e }
+
+  whole-steps : (later s : ℕ) → ((k : Kind) (t : ℕ) → ending p u ≡ got k t → late k later ≡ false) → fitted u s (foundOf (lastFrame p u)) ≡ foundOf (beside later s (lastFrame p u))
+  unfolding lastFrame
+  whole-steps later s h = whole-fits later s (ending p u) h
+
+  -- what was found in the walk's own words, where it is no comfort noise
+  pub kind-whole : (later : ℕ) → ((k : Kind) (t : ℕ) → ending p u ≡ got k t → late k later ≡ false) → {r : Found} → r ≡ foundOf (lastFrame p u) → ByKind p u later r
+  kind-whole later h er = record { steps = λ s. ap (fitted u s) er ∙ whole-steps later s h }
+
+  -- a last octet from 128 to 159
+  pub kind-named : (later x : ℕ) → 128 ≤ x → x < 160 → ending p u ≡ named x → {r : Found} → r ≡ foundOf (named x) → ByKind p u later r
+  kind-named later x a b e {r = r} er = go (below-or x 130)
+    where
+      go : (x < 130) ⊎ (130 ≤ x) → ByKind p u later r
+      go (inl c) =
+          let n = named-1200 x a c in
+          record { steps = λ s. ap (fitted u s) (er ∙ ap foundOf n) ∙ plain-steps later s bps1200 refl (λ y. refl) (e ∙ n) }
+      go (inr c) =
+          let n = named-foreign x c b in
+          record { steps = λ s. ap (fitted u s) (er ∙ ap foundOf n) ∙ kind-bad later 3 (e ∙ n) .steps s }
+
+  pub last-bad : (n : ℕ) → ending p u ≡ bad n → Bad n ≡ foundOf (lastFrame p u)
+  unfolding lastFrame whole
+  last-bad n e = rw e
+
+-- ---- a last octet that is an octet of a count
+
+tsvcis-got : (e : Ending) (t : ℕ) → e ≡ got tsvcis t → (k : Kind) (s : ℕ) → e ≡ got k s → k ≡ tsvcis
+tsvcis-got e t a k s b = cc
+
+bad-got : (e : Ending) (n : ℕ) → e ≡ bad n → (k : Kind) (s : ℕ) → e ≡ got k s → k ≡ tsvcis
+bad-got e n a k s b = absurd (let z : _≡_ {A = ℕ} 0 1 = cc in omega arith)
+
+pub count-kind : (p : List ℕ) (x : ℕ) → CountEnd p x → (k : Kind) (t : ℕ) → ending p (length p) ≡ got k t → k ≡ tsvcis
+count-kind p x h = go (below-or x 255) (below-or 1 (length p))
+  where
+    tc : ℕ
+    tc = getD p (length p - 2) 0
+
+    long-kind : ending p (length p) ≡ counted tc → (0 < tc) ⊎ (tc ≤ 0) → Counts tc → (k : Kind) (t : ℕ) → ending p (length p) ≡ got k t → k ≡ tsvcis
+    long-kind e (inr z) c = bad-got (ending p (length p)) 4 (e ∙ counted-zero tc (omega arith))
+    long-kind e (inl z) (short a b) = bad-got (ending p (length p)) 5 (e ∙ counted-short tc a b)
+    long-kind e (inl z) (long c) = tsvcis-got (ending p (length p)) tc (e ∙ counted-long tc z c)
+
+    go : (x < 255) ⊎ (255 ≤ x) → (1 < length p) ⊎ (length p ≤ 1) → (k : Kind) (t : ℕ) → ending p (length p) ≡ got k t → k ≡ tsvcis
+    go (inl a) w = tsvcis-got (ending p (length p)) (x - 177) (ending-one p (length p) x (h .some) (h .last) a ∙ named-short x (x - 177) (h .high) refl)
+    go (inr a) (inl w) = long-kind (ending-two p (length p) tc w (omega (arith, h .last)) refl) (below-or 0 tc) (counts tc)
+    go (inr a) (inr w) = bad-got (ending p (length p)) 2 (ending-alone p (length p) (omega (arith, h .some)) (omega (arith, h .last)))
+
+pub count-late : (p : List ℕ) (x later : ℕ) → CountEnd p x → (k : Kind) (t : ℕ) → ending p (length p) ≡ got k t → late k later ≡ false
+count-late p x later h k t e = rw (count-kind p x h k t e) refl
+
+module _ (p : List ℕ) (x : ℕ) (h : CountEnd p x) (y : Shape) (w : Shaped (ending p (length p)) y) where
+  is-tsvcis : y ≡ shapeOf tsvcis (w .tc)
+  is-tsvcis = w .is ∙ ap (λ (k : Kind). shapeOf k (w .tc)) (count-kind p x h (w .kind) (w .tc) (w .ends))
+
+  pub count-wire : 7 ≤ y .wire
+  count-wire = rw is-tsvcis (omega arith)
+
+  choose-two : (t : ℕ) (a b : Bool) → cond a (Bad 2) (cond b (Bad 7) (Got (shapeOf tsvcis t))) ≡ foundOf (cond a (bad 2) (cond b (bad 7) (got tsvcis t)))
+  choose-two t true b = refl
+  choose-two t false true = refl
+  choose-two t false false = refl
+
+  pub count-last : {r : Found} → r ≡ basedShape p (length p) y → r ≡ foundOf (lastFrame p (length p))
+  unfolding basedShape lastFrame whole
+  count-last er =
+      let t = w .tc in
+      let e : ending p (length p) ≡ got tsvcis t = w .ends ∙ ap (λ (k : Kind). got k t) (count-kind p x h (w .kind) t (w .ends)) in
+      er ∙ ap (basedShape p (length p)) is-tsvcis ∙ rw e (choose-two t (ltb (length p) (wireLength tsvcis t)) (ltb 63 (getD p (length p - wireLength tsvcis t + 6) 0)))

@@ -1,11 +1,10 @@
 // The frame that a payload's unread octets end in: its numbers, all at once, or the refusal of document 01's "Reader".
 ghost use mathlib.Core.Path.{_≡_};
 ghost use Prim.Native.Nat.{_≤_, _<_};
-ghost use mathlib.Core.List.{[]};
 ghost use lib.ListN.{length};
 ghost use Rattle.wire.specs.Frame.{bps2400, bps1200, bps600, noise, tsvcis, ticksOfRate};
-ghost use Rattle.wire.specs.Walk.{named, counted, ending, whole, lastFrame, beside, foundOf, shapeOf};
-ghost use Rattle.wire.specs.Step.{plainShape, besideShape, wholeShape, Augmented, CountIs};
+ghost use Rattle.wire.specs.Walk.{named, counted, ending, lastFrame, beside, foundOf, shapeOf};
+ghost use Rattle.wire.specs.Step.{plainShape, noiseShape, basedShape, fitShape, ByKind, CountEnd, CountIs};
 
 // The kind of a 2400 bps frame without augmentation, the commonest.
 pub const PLAIN_2400: u16 = 1;
@@ -149,7 +148,23 @@ fn long_count(tc: usize) -> Found
     Found::Got(shape_tsvcis(tc, 2))
 }
 
-// The frame that the unread octets name by their end, whole or not.
+// The TSVCIS frame that a last octet x from 192 on names, which is its count or the second octet of it.
+fn last_count(unread: &[u8], x: u8) -> Found
+    requires { ⌜ CountEnd (now unread) x ⌝ }
+    ensures { λ r. ⌜ r ≡ foundOf (ending (now (unread .entry)) (length (now (unread .entry)))) ⌝ }
+{
+    if x < 255 {
+        return Found::Got(shape_tsvcis(wide(x) - 177, 1));
+    }
+    let n = unread.len();
+    if n == 1 {
+        return Found::Bad(refusal::CUT);
+    }
+    long_count(wide(unread[n - 2]))
+}
+
+// The frame that the unread octets name by their end, whole or not. Here and in `by_kind` the commonest kinds are looked
+// for first: the order of the tests is for speed alone.
 pub fn name(unread: &[u8]) -> Found
     ensures { λ r. ⌜ r ≡ foundOf (ending (now (unread .entry)) (length (now (unread .entry)))) ⌝ }
 {
@@ -158,46 +173,20 @@ pub fn name(unread: &[u8]) -> Found
         return Found::Bad(refusal::CUT);
     }
     let x = unread[n - 1];
-    if x < 255 {
-        return last_octet(x);
+    if x < 64 {
+        return Found::Got(shape_2400());
     }
-    if n == 1 {
-        return Found::Bad(refusal::CUT);
+    if 191 < x {
+        return last_count(unread, x);
     }
-    long_count(wide(unread[n - 2]))
+    last_octet(x)
 }
 
-// ---- the walk's step. Each kind goes its own way to its answer, with its numbers known: measured, the walk is then half
-// as fast again as over `name`.
-
-// A coder frame beside coder frames of the rate `rate`, or beside none.
-fn coder_frame(shape: Shape, rate: u32) -> Found
-    requires { ⌜ (shape .rate ≡ 0 → ⊥) ⌝ }
-    ensures { λ r. ⌜ r ≡ besideShape 0 rate shape ⌝ }
-{
-    if rate == shape.rate {
-        return Found::Got(shape);
-    }
-    if rate == 0 {
-        return Found::Got(shape);
-    }
-    Found::Bad(refusal::MIXED_RATES)
-}
-
-// A coder frame without augmentation, at the end of n unread octets.
-fn plain_frame(n: usize, shape: Shape, rate: u32) -> Found
-    requires { ⌜ (shape .tc ≡ 0) × (shape .rate ≡ 0 → ⊥) ⌝ }
-    ensures { λ r. ⌜ r ≡ wholeShape [] n 0 rate shape ⌝ }
-{
-    if n < shape.wire {
-        return Found::Bad(refusal::CUT);
-    }
-    coder_frame(shape, rate)
-}
+// ---- the walk's step: first what is asked of one kind alone, then what is asked of all
 
 // Comfort noise, with `later` frames behind it.
 fn noise_frame(n: usize, later: usize) -> Found
-    ensures { λ r. ⌜ r ≡ wholeShape [] n later 0 (shapeOf noise 0) ⌝ }
+    ensures { λ r. ⌜ r ≡ noiseShape n later ⌝ }
 {
     if n < 2 {
         return Found::Bad(refusal::CUT);
@@ -208,10 +197,10 @@ fn noise_frame(n: usize, later: usize) -> Found
     Found::Got(shape_noise())
 }
 
-// A TSVCIS frame, whose augmentation must stand behind a 2400 bps frame.
-fn tsvcis_frame(unread: &[u8], shape: Shape, rate: u32) -> Found
-    requires { ⌜ Augmented shape ⌝ }
-    ensures { λ r. ⌜ r ≡ wholeShape (now (unread .entry)) (length (now (unread .entry))) 0 rate shape ⌝ }
+// A frame whose augmentation must stand behind a 2400 bps frame.
+fn augmented_frame(unread: &[u8], shape: Shape) -> Found
+    requires { ⌜ 7 ≤ shape .wire ⌝ }
+    ensures { λ r. ⌜ r ≡ basedShape (now (unread .entry)) (length (now (unread .entry))) shape ⌝ }
 {
     let n = unread.len();
     let wire = shape.wire;
@@ -221,30 +210,24 @@ fn tsvcis_frame(unread: &[u8], shape: Shape, rate: u32) -> Found
     if 63 < unread[n - wire + 6] {
         return Found::Bad(refusal::NOT_BEHIND_2400);
     }
-    coder_frame(shape, rate)
+    Found::Got(shape)
 }
 
-// The frame of a long count of `tc`.
-fn long_frame(unread: &[u8], tc: usize, rate: u32) -> Found
-    requires { ⌜ tc < 256 ⌝ }
-    ensures { λ r. ⌜ r ≡ foundOf (beside 0 rate (whole (now (unread .entry)) (length (now (unread .entry))) (counted tc))) ⌝ }
+// The TSVCIS frame that a last octet x from 192 on names.
+fn tsvcis_frame(unread: &[u8], x: u8) -> Found
+    requires { ⌜ CountEnd (now unread) x ⌝ }
+    ensures { λ r. ⌜ r ≡ foundOf (lastFrame (now (unread .entry)) (length (now (unread .entry)))) ⌝ }
 {
-    if tc == 0 {
-        return Found::Bad(refusal::ZERO_COUNT);
+    let found = last_count(unread, x);
+    match found {
+        Found::Bad(number) => Found::Bad(number),
+        Found::Got(shape) => augmented_frame(unread, shape),
     }
-    if tc < 15 {
-        return tsvcis_frame(unread, shape_tsvcis(tc, 2), rate);
-    }
-    if tc <= 77 {
-        return Found::Bad(refusal::LONG_COUNT);
-    }
-    tsvcis_frame(unread, shape_tsvcis(tc, 2), rate)
 }
 
-// The walk's step: the frame that the unread octets end in, where `later` frames behind it are read, of the rate `rate`
-// (0 where no coder frame is among them); or the refusal, in document 01's order.
-pub fn step(unread: &[u8], later: usize, rate: u32) -> Found
-    ensures { λ r. ⌜ r ≡ foundOf (beside later rate (lastFrame (now (unread .entry)) (length (now (unread .entry))))) ⌝ }
+// The frame that the unread octets end in, with what its kind alone is asked.
+fn by_kind(unread: &[u8], later: usize) -> Found
+    ensures { λ r. ⌜ ByKind (now (unread .entry)) (length (now (unread .entry))) later r ⌝ }
 {
     let n = unread.len();
     if n == 0 {
@@ -252,25 +235,47 @@ pub fn step(unread: &[u8], later: usize, rate: u32) -> Found
     }
     let x = unread[n - 1];
     if x < 64 {
-        return plain_frame(n, shape_2400(), rate);
+        return Found::Got(shape_2400());
     }
     if x < 128 {
-        return plain_frame(n, shape_600(), rate);
+        return Found::Got(shape_600());
     }
-    if x < 130 {
-        return plain_frame(n, shape_1200(), rate);
+    if 191 < x {
+        return tsvcis_frame(unread, x);
     }
     if x < 160 {
-        return Found::Bad(refusal::FOREIGN_BITS);
+        return last_octet(x);
     }
-    if x < 192 {
-        return noise_frame(n, later);
-    }
-    if x < 255 {
-        return tsvcis_frame(unread, shape_tsvcis(wide(x) - 177, 1), rate);
-    }
-    if n == 1 {
+    noise_frame(n, later)
+}
+
+// A frame at the end of n unread octets, beside coder frames of the rate `rate`, or beside none.
+fn fits(n: usize, shape: Shape, rate: u32) -> Found
+    ensures { λ r. ⌜ r ≡ fitShape n rate shape ⌝ }
+{
+    if n < shape.wire {
         return Found::Bad(refusal::CUT);
     }
-    long_frame(unread, wide(unread[n - 2]), rate)
+    if rate == shape.rate {
+        return Found::Got(shape);
+    }
+    if rate == 0 {
+        return Found::Got(shape);
+    }
+    if shape.rate == 0 {
+        return Found::Got(shape);
+    }
+    Found::Bad(refusal::MIXED_RATES)
+}
+
+// The walk's step: the frame that the unread octets end in, where `later` frames or octets behind it are read, of the rate
+// `rate` (0 where no coder frame is among them); or the refusal, in document 01's order.
+pub fn step(unread: &[u8], later: usize, rate: u32) -> Found
+    ensures { λ r. ⌜ r ≡ foundOf (beside later rate (lastFrame (now (unread .entry)) (length (now (unread .entry))))) ⌝ }
+{
+    let found = by_kind(unread, later);
+    match found {
+        Found::Bad(number) => Found::Bad(number),
+        Found::Got(shape) => fits(unread.len(), shape, rate),
+    }
 }

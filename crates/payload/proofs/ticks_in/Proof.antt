@@ -1,51 +1,52 @@
-use Prim.Native.Nat.{_-_}
 use native.Mathlib.Omega.{arith}
+use mathlib.Core.Path.{refl, ap, sym, _∙_}
+use Prim.Native.Nat.{_-_}
 use mathlib.Core.Logic.{inl, inr}
 use native.Mathlib.Nat.{mul-le-mul-left}
-use Rattle.payload.proofs.Timing.{ticks-none, has-frame, has-octets, product, ticks-plain, ticks-noisy}
+use Rattle.payload.proofs.Timing.{ticks-none, has-frame, product, ticks-plain, ticks-noisy}
 use borrow.Author.Needs.{needs}
 use Rattle.payload.proofs.ticks_in.Statement.{statement}
 use Rattle.payload.proofs.ticks_in.Tie as tie
 
+returns : tie.Need-returns
+returns c = ticks-none _ _ (c .before .before .pre) (c .if1 .taken)
+
 ticks-of-rate-requires : tie.Need-ticks-of-rate-requires
 ticks-of-rate-requires c κs = search needs
 
-returns : tie.Need-returns
-returns c = ticks-none _ _ (c .before .before .before .pre) (c .before .ticks-of-rate .ensures) (c .if1 .taken)
-
 sub-x : tie.Need-sub-x
-sub-x c = has-octets _ _ (c .before .before .before .pre) (c .before .ticks-of-rate .ensures) (c .if1 .left)
+sub-x c = search needs
 
 shared-slice-read-x : tie.Need-shared-slice-read-x
-shared-slice-read-x c = omega (arith, has-octets _ _ (c .before .before .before .before .pre) (c .before .before .ticks-of-rate .ensures) (c .before .if1 .left))
+shared-slice-read-x c = search needs
 
 mul-result : tie.Need-mul-result
-mul-result c = omega (arith, product _ _ (c .before .before .before .before .before .before .pre) (c .before .before .before .before .ticks-of-rate .ensures) (c .before .before .before .if1 .left))
+mul-result c = omega (arith, product _ _ (c .before .before .before .before .before .before .pre) (c .before .before .before .ticks-of-rate .ensures) (omega arith))
 
 returns-2 : tie.Need-returns-2
-returns-2 c = ticks-plain _ _ (c .before .before .before .before .before .before .pre) (c .before .before .before .before .ticks-of-rate .ensures) (c .before .before .before .if1 .left) (inl (c .before .if2 .taken))
+returns-2 c = ticks-plain _ _ (c .before .before .before .before .before .before .pre) (c .before .before .before .ticks-of-rate .ensures) (omega arith) (inl (c .before .if2 .taken))
 
 sub-result : tie.Need-sub-result
-sub-result c = has-frame _ _ (c .before .before .before .before .before .before .before .pre) (c .before .before .before .before .before .ticks-of-rate .ensures) (c .before .before .before .before .if1 .left)
+sub-result c = has-frame _ _ (c .before .before .before .before .before .before .before .pre) (c .before .before .before .before .ticks-of-rate .ensures) (omega arith)
 
 mul-result-2 : tie.Need-mul-result-2
-mul-result-2 c = omega (arith, product _ _ (c .before .before .before .before .before .before .before .pre) (c .before .before .before .before .before .ticks-of-rate .ensures) (c .before .before .before .before .if1 .left), mul-le-mul-left {m = c .before .before .before .before .before .before .before .args .extent .frames - 1} {n = c .before .before .before .before .before .before .before .args .extent .frames} (c .before .before .before .before .before .ticks-of-rate .result) (omega arith))
+mul-result-2 c = omega (arith, product _ _ (c .before .before .before .before .before .before .before .pre) (c .before .before .before .before .ticks-of-rate .ensures) (omega arith), mul-le-mul-left {m = c .before .before .before .before .before .before .before .args .extent .frames - 1} {n = c .before .before .before .before .before .before .before .args .extent .frames} (c .before .before .before .before .ticks-of-rate .result) (omega arith))
 
 returns-3 : tie.Need-returns-3
-returns-3 c = ticks-noisy _ _ (c .before .before .before .before .before .before .before .pre) (c .before .before .before .before .before .ticks-of-rate .ensures) (c .before .before .before .before .if1 .left) (c .before .before .if2 .left) (c .before .if3 .taken)
+returns-3 c = ticks-noisy _ _ (c .before .before .before .before .before .before .before .pre) (c .before .before .before .before .ticks-of-rate .ensures) (omega arith) (c .before .before .if2 .left) (c .before .if3 .taken)
 
 mul-result-3 : tie.Need-mul-result-3
-mul-result-3 c = omega (arith, product _ _ (c .before .before .before .before .before .before .before .pre) (c .before .before .before .before .before .ticks-of-rate .ensures) (c .before .before .before .before .if1 .left))
+mul-result-3 c = omega (arith, product _ _ (c .before .before .before .before .before .before .before .pre) (c .before .before .before .before .ticks-of-rate .ensures) (omega arith))
 
 returns-4 : tie.Need-returns-4
-returns-4 c = ticks-plain _ _ (c .before .before .before .before .before .before .before .pre) (c .before .before .before .before .before .ticks-of-rate .ensures) (c .before .before .before .before .if1 .left) (inr (c .before .if3 .left))
+returns-4 c = ticks-plain _ _ (c .before .before .before .before .before .before .before .pre) (c .before .before .before .before .ticks-of-rate .ensures) (omega arith) (inr (c .before .if3 .left))
 
 pub ticks-in-spec : {M : Type 1} → statement M
 ticks-in-spec =
     tie.close
     (tie.spec
-    ticks-of-rate-requires
     returns
+    ticks-of-rate-requires
     sub-x
     shared-slice-read-x
     mul-result

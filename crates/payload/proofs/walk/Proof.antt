@@ -26,6 +26,9 @@ loop-holds c = held-start _ (omega arith)
 slice-aggregate-step : tie.Need-slice-aggregate-step Inv-loop μ-loop
 slice-aggregate-step c = sym (length-take-le _ _ (omega (arith, c .before .before .loop .inv .few)))
 
+sub-step : tie.Need-sub-step Inv-loop μ-loop
+sub-step c = omega (arith, c .before .before .loop .inv .few)
+
 step-requires : tie.Need-step-requires Inv-loop μ-loop
 step-requires c κs = search needs
 
@@ -53,8 +56,8 @@ loop-less c = omega (arith, frame (c .before .before .before) .some, c .before .
 loop-again : tie.Need-loop-again Inv-loop μ-loop
 loop-again c = held-got _ _ _ _ _ (c .before .before .before .before .before .before .before .before .loop .inv) (c .before .before .before .before .before .before .before .loop-test .taken) (λ i. c .before .before .before .before .before .before .before .before .before .before .shared-slice-known .given i .fits) _ (c .before .before .before .found2 .given .1) (c .before .before .before .before .before .step .ensures)
 
-sub-t16 : tie.Need-sub-t16 Inv-loop μ-loop
-sub-t16 c = omega (arith, c .before .loop .inv .octets)
+sub-t18 : tie.Need-sub-t18 Inv-loop μ-loop
+sub-t18 c = omega (arith, c .before .loop .inv .octets)
 
 returns-3 : tie.Need-returns-3 Inv-loop μ-loop
 returns-3 c = walks _ (held-end _ _ _ _ _ (c .before .loop .inv) (c .loop-test .left))
@@ -68,6 +71,7 @@ walk-spec =
     returns
     loop-holds
     slice-aggregate-step
+    sub-step
     step-requires
     enum-known-found
     returns-2
@@ -77,5 +81,5 @@ walk-spec =
     add-counts
     loop-less
     loop-again
-    sub-t16
+    sub-t18
     returns-3)

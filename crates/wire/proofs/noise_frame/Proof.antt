@@ -1,8 +1,7 @@
 use native.Mathlib.Omega.{arith}
 use mathlib.Core.Path.{refl, ap, sym, _∙_}
-use Rattle.wire.proofs.Shapes.{allow-late, allow-noise, admit-cut, admit-plain}
+use Rattle.wire.proofs.Shapes.{noise-cut, noise-late, noise-last}
 use Rattle.wire.specs.Frame.{countOf}
-use Rattle.wire.specs.Walk.{foundOf}
 use Rattle.wire.specs.declared.Found.the-variants.{Got}
 use borrow.Author.Needs.{needs}
 use Rattle.wire.proofs.noise_frame.Statement.{statement}
@@ -10,18 +9,18 @@ use Rattle.wire.proofs.noise_frame.Tie as tie
 
 returns : tie.Need-returns
 unfolding countOf
-returns c = admit-cut _ _ _ _ _ (c .if1 .taken)
+returns c = noise-cut _ _ (c .if1 .taken)
 
 returns-2 : tie.Need-returns-2
 unfolding countOf
-returns-2 c = allow-late _ _ _ refl (c .if2 .taken) ∙ admit-plain _ _ _ _ _ (c .before .if1 .left) refl
+returns-2 c = noise-late _ _ (c .before .if1 .left) (c .if2 .taken)
 
 shape-noise-requires : tie.Need-shape-noise-requires
 shape-noise-requires c κs = search needs
 
 returns-3 : tie.Need-returns-3
 unfolding countOf
-returns-3 c = ap Got (c .shape-noise .ensures) ∙ allow-noise _ _ _ refl (c .before .if2 .left) ∙ admit-plain _ _ _ _ _ (c .before .before .if1 .left) refl
+returns-3 c = ap Got (c .shape-noise .ensures) ∙ noise-last _ _ (c .before .before .if1 .left) (c .before .if2 .left)
 
 pub noise-frame-spec : {M : Type 1} → statement M
 noise-frame-spec = tie.close (tie.spec returns returns-2 shape-noise-requires returns-3)

@@ -1,29 +1,36 @@
 use native.Mathlib.Omega.{arith}
 use mathlib.Core.Path.{refl, ap, sym, _∙_}
-use Rattle.wire.proofs.Shapes.{admit-cut, admit-foreign, admit-based}
+use Rattle.wire.specs.Walk.{ending}
+use Rattle.wire.proofs.Shapes.{bad-is, shaped, last-bad, count-wire, count-last}
 use borrow.Author.Needs.{needs}
 use Rattle.wire.proofs.tsvcis_frame.Statement.{statement}
 use Rattle.wire.proofs.tsvcis_frame.Tie as tie
 
+last-count-requires : tie.Need-last-count-requires
+last-count-requires c κs = c .before .pre
+
+enum-known-found : tie.Need-enum-known-found
+enum-known-found c = search needs
+
+enum-known-found-2 : tie.Need-enum-known-found-2
+enum-known-found-2 c = search needs
+
+augmented-frame-requires : tie.Need-augmented-frame-requires
+augmented-frame-requires c κs = count-wire _ _ (c .before .before .before .before .before .pre) _ (shaped _ _ (c .before .found2 .given .1) (c .before .before .before .last-count .ensures))
+
 returns : tie.Need-returns
-returns c = admit-cut _ _ _ _ _ (c .if1 .taken)
-
-add-if2 : tie.Need-add-if2
-add-if2 c = search needs
-
-shared-slice-read-if2 : tie.Need-shared-slice-read-if2
-shared-slice-read-if2 c = search needs
+returns c = last-bad _ _ _ (bad-is _ _ (c .before .found .given .1) (c .before .before .before .last-count .ensures))
 
 returns-2 : tie.Need-returns-2
-returns-2 c = admit-foreign _ _ _ _ _ (omega arith) (c .before .before .before .before .pre .some) (c .if2 .taken)
-
-coder-frame-requires : tie.Need-coder-frame-requires
-coder-frame-requires c κs = search needs
-
-returns-3 : tie.Need-returns-3
-returns-3 c = c .coder-frame .ensures ∙ admit-based _ _ _ _ _ (omega arith) (c .before .before .before .before .before .pre .some) (c .before .if2 .left)
+returns-2 c = count-last _ _ (c .before .before .before .before .before .before .pre) _ (shaped _ _ (c .before .before .found2 .given .1) (c .before .before .before .before .last-count .ensures)) (c .augmented-frame .ensures)
 
 pub tsvcis-frame-spec : {M : Type 1} → statement M
 tsvcis-frame-spec =
     tie.close
-    (tie.spec returns add-if2 shared-slice-read-if2 returns-2 coder-frame-requires returns-3)
+    (tie.spec
+    last-count-requires
+    enum-known-found
+    enum-known-found-2
+    augmented-frame-requires
+    returns
+    returns-2)
