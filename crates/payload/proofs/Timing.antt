@@ -4,7 +4,7 @@ use mathlib.Core.Logic.{_⊎_, inl, inr}
 use mathlib.Core.List.{List, [], _∷_, _++_}
 use Prim.Native.Nat.{ℕ, zero, suc, _+_, _-_, _*_, _≤_, _<_}
 use native.Mathlib.Omega.{arith}
-use native.Mathlib.Nat.{mul-suc, mul-add, mul-zero, mul-one, mul-sub, mul-comm}
+use native.Mathlib.Nat.{mul-suc, mul-add, mul-zero, mul-one, mul-sub, mul-le-mul-left, mul-comm}
 use lib.ListN.{length, getD, length-append}
 use lib.Seq.{getD-append-add}
 use Rattle.wire.specs.Frame.{Frame, Kind, bps2400, bps1200, bps600, noise, tsvcis, LegalFrame, LegalTc, size, top, code, rate, ticks, ticksOfRate, countOf, wireLength, wireOf, wire, octetsOf, OfRate, Stands, Legal, Octets, bodiesOf, ticksOf}
@@ -175,8 +175,10 @@ module _ (p : List ℕ) (x : Extent) (w : Went p x) where
     pub has-frame : 1 ≤ x .frames
     has-frame = omega (arith, frames, some-frame (w .fs) (w .gives) some)
 
-    pub product : n * x .frames ≤ 144000
-    product = omega (arith, mul-comm n (x .frames), product-most (x .frames) n (x .rate) (omega (arith, frames, frames-most (w .fs) (w .legal))) e)
+    pub product : {m : ℕ} → m ≤ x .frames → n * m ≤ 144000
+    product {m = m} h =
+        omega
+        (arith, mul-le-mul-left {m = m} {n = x .frames} n h, mul-comm n (x .frames), product-most (x .frames) n (x .rate) (omega (arith, frames, frames-most (w .fs) (w .legal))) e)
 
     -- a sequence whose first frame is comfort noise lasts no ticks, and all others are of the first frame's rate
     all : ticksOf (w .fs) + n * noises (w .fs) ≡ n * length (w .fs)

@@ -93,15 +93,14 @@ fn ticks_in(payload: &[u8], extent: Extent) -> usize
     if n == 0 {
         return 0;
     }
-    let each = wire::ticks_of_rate(extent.rate);
+    let mut coders = extent.frames;
     let x = payload[n - 1];
-    if x < 160 {
-        return each * extent.frames;
+    if 159 < x {
+        if x < 192 {
+            coders -= 1;
+        }
     }
-    if x < 192 {
-        return each * (extent.frames - 1);
-    }
-    each * extent.frames
+    wire::ticks_of_rate(extent.rate) * coders
 }
 
 // What the payload holds, its ticks with it.

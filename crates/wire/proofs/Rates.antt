@@ -1,5 +1,6 @@
 -- Laws of the ticks of a rate.
 use mathlib.Core.Path.{_≡_, refl}
+use mathlib.Core.Logic.{_⊎_, inl, inr}
 use Prim.Native.Nat.{ℕ, _*_, _≤_}
 use native.Mathlib.Omega.{arith}
 use native.Mathlib.Decide.{ℕ-discrete}
@@ -43,3 +44,8 @@ ticks-of-kind bps1200 = refl
 ticks-of-kind bps600 = refl
 ticks-of-kind noise = refl
 ticks-of-kind tsvcis = refl
+
+-- what follows either way, as of the two ways into a place where they meet
+pub either : {A B C : Type 0} → (A → C) → (B → C) → A ⊎ B → C
+either f g (inl a) = f a
+either f g (inr b) = g b

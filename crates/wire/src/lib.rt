@@ -37,16 +37,17 @@ fn wide(x: u8) -> usize
 pub fn ticks_of_rate(rate: u32) -> usize
     ensures { λ r. ⌜ r ≡ ticksOfRate rate ⌝ }
 {
+    let mut ticks = 0;
     if rate == 2400 {
-        return 180;
+        ticks = 180;
     }
     if rate == 1200 {
-        return 540;
+        ticks = 540;
     }
     if rate == 600 {
-        return 720;
+        ticks = 720;
     }
-    0
+    ticks
 }
 
 // ---- the shapes
