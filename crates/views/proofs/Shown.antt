@@ -58,7 +58,7 @@ spot-at r a (g ∷ gs) f hs o =
     omega (arith, length-append (wire g) (octetsOf gs), length-wire (g .kind) (g .tc) (g .body) (o .0 .long)) in
     spot-at r (a + wireLength (g .kind) (g .tc)) gs f hs (o .2) ∙ ap (λ (m : ℕ). At m (shapeOf (f .kind) (f .tc))) n
 
-spot-past : (a : ℕ) (fs : List Frame) (row : ℕ) → length fs ≤ row → spot a fs row ≡ Missing
+pub spot-past : (a : ℕ) (fs : List Frame) (row : ℕ) → length fs ≤ row → spot a fs row ≡ Missing
 spot-past a [] row h = refl
 spot-past a (f ∷ fs) zero h = absurd (omega arith)
 spot-past a (f ∷ fs) (suc row) h = spot-past (a + wireLength (f .kind) (f .tc)) fs row (omega arith)

@@ -2,7 +2,7 @@
 use mathlib.Core.Path.{_≡_}
 use mathlib.Core.Bool.{cond}
 use mathlib.Core.List.{List, [], _∷_, _++_}
-use Prim.Native.Nat.{ℕ, zero, suc, _+_, _≤_}
+use Prim.Native.Nat.{ℕ, zero, suc, _+_, _-_, _≤_, _<_}
 use lib.Dec.{eqb}
 use lib.ListN.{length, take, drop}
 use Rattle.wire.specs.Frame.{Frame, size, wireLength, wire, octetsOf, Legal}
@@ -22,11 +22,25 @@ unfoldable pub placeOf : Walk → ℕ → Place
 placeOf (refused n place later) i = Missing
 placeOf (at u fs) i = spot 0 fs i
 
--- the payload is known to hold n frames
+-- where the frame at a place ends; at 0 where it is missing
+abbrev pub ends : Place → ℕ
+ends (At a x) = a + x .wire
+ends Missing = 0
+
+-- where "the row's own wire octets" end
+abbrev pub endOf : Walk → ℕ → ℕ
+endOf w row = ends (placeOf w row)
+
+-- the row that has `behind` rows behind it
+abbrev pub rowBefore : Walk → ℕ → ℕ
+rowBefore (refused n place later) behind = 0
+rowBefore (at u fs) behind = length fs - 1 - behind
+
+-- the payload is known to hold more than n frames
 pub record Holds (p : List ℕ) (n : ℕ) : Type 0 where
   pub fs : List Frame
   pub reads : readOf p ≡ at 0 fs
-  pub frames : n ≡ length fs
+  pub more : n < length fs
 
 -- a part of lent memory: its block, where in the block it starts, and its octets
 pub record Part (A : Type 0) : Type 0 where

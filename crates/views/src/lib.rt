@@ -1,9 +1,7 @@
 // Frames shown in place: parts of the lent payload itself, never copies.
 ghost use mathlib.Core.Path.{_≡_};
-ghost use Prim.Native.Nat.{_≤_, _<_};
-ghost use lib.ListN.{length};
 ghost use Rattle.wire.specs.Walk.{readOf};
-ghost use Rattle.views.specs.View.{placeOf, Holds, AugmentationShown, FrameShown};
+ghost use Rattle.views.specs.View.{placeOf, endOf, rowBefore, Holds, AugmentationShown, FrameShown};
 use payload::Walked;
 use wire::Found;
 use wire::Shape;
@@ -14,45 +12,56 @@ pub enum Place {
     Missing,
 }
 
-// The place of a row of a payload that holds n frames, more than `row`.
-fn seek(payload: &[u8], row: usize, n: usize) -> Place
-    requires { ⌜ (row < n) × Holds (now payload) n ⌝ }
-    ensures { λ r. ⌜ r ≡ placeOf (readOf (now (payload .entry))) row ⌝ }
+// Where the frame ends that has `behind` frames behind it, in a payload that is known to hold it: the payload's octets, less
+// those of the frames behind. A number alone goes from here to `locate`: a place would go through memory.
+fn back(payload: &[u8], behind: usize) -> usize
+    requires { ⌜ Holds (now payload) behind ⌝ }
+    ensures { λ r. ⌜ r ≡ endOf (readOf (now (payload .entry))) (rowBefore (readOf (now (payload .entry))) behind) ⌝ }
 {
     let mut unread = payload.len();
-    let mut i = n;
-    while row < i {
+    let mut left = behind;
+    while 0 < left {
         let found = wire::name(&payload[..unread]);
         match found {
             Found::Bad(_) => {
-                return Place::Missing;
+                return 0;
             }
             Found::Got(shape) => {
                 unread -= shape.wire;
-                i -= 1;
-                if i == row {
-                    return Place::At(unread, shape);
-                }
+                left -= 1;
             }
         }
     }
-    Place::Missing
+    unread
 }
 
-// The place of a row, missing too where the payload is refused: the numbers behind both views.
-pub fn locate(payload: &[u8], row: usize) -> Place
-    ensures { λ r. ⌜ r ≡ placeOf (readOf (now (payload .entry))) row ⌝ }
+// Where a row's frame ends in the payload; 0 where the payload is refused or the row missing.
+fn end_of(payload: &[u8], row: usize) -> usize
+    ensures { λ r. ⌜ r ≡ endOf (readOf (now (payload .entry))) row ⌝ }
 {
     let walked = payload::walk(payload);
     match walked {
-        Walked::Refused(_) => Place::Missing,
+        Walked::Refused(_) => 0,
         Walked::Whole(extent) => {
             let n = extent.frames;
             if n <= row {
-                return Place::Missing;
+                return 0;
             }
-            seek(payload, row, n)
+            back(payload, n - 1 - row)
         }
+    }
+}
+
+// The place of a row, missing too where the payload is refused: the numbers behind both views. A missing row ends at 0,
+// where no frame is named.
+pub fn locate(payload: &[u8], row: usize) -> Place
+    ensures { λ r. ⌜ r ≡ placeOf (readOf (now (payload .entry))) row ⌝ }
+{
+    let end = end_of(payload, row);
+    let found = wire::name(&payload[..end]);
+    match found {
+        Found::Bad(_) => Place::Missing,
+        Found::Got(shape) => Place::At(end - shape.wire, shape),
     }
 }
 
