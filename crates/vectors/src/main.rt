@@ -4,15 +4,19 @@
 //     read NUMBERS OCTETS: PAYLOAD
 //     view ROW OCTETS: PAYLOAD
 //     time RATE FRAMES
+//     write OCTETS KIND.TC KIND.TC ..: BODIES
 //
-// and any other line is only written. `read` lends that many numbers, each 99 before the call, and octets, each ee, and
-// writes the answer and all that was lent, so that whatever a call leaves unchanged shows; then frames, body octets and
-// ticks by `survey`, and ticks by `packet_ticks`. `view` writes the row's augmentation and its frame, with a stand-in of that
-// many octets, each 5a. `time` writes the ptime in milliseconds.
+// A line that starts with # is only written; any other, and a case that asks for more than there is here, is malformed.
+// `read` lends that many numbers, each 99 before the call, and octets, each ee, and writes the answer and all that was lent,
+// so that whatever a call leaves unchanged shows; then frames, body octets and ticks by `survey`, and ticks by
+// `packet_ticks`. `view` writes the row's augmentation and its frame, with a stand-in of that many octets, each 5a. `time`
+// writes the ptime in milliseconds. `write` lends that many octets, each ee, and writes the answer, what was lent and the
+// ten octets behind it.
 //
-// A payload is written as document 01 writes it: `00*6` is six zeros. `(00*6 40)*2` is two frames.
+// A payload is written as document 01 writes it: `00*6` is six zeros. `(00*6 40)*2` is two frames; `(1.0)*2` is two rows.
+// A row list may be odd: `1.0 1`.
 ghost use mathlib.Core.Path.{_≡_};
-ghost use Prim.Native.Nat.{_+_, _≤_, _<_};
+ghost use Prim.Native.Nat.{_+_, _*_, _≤_, _<_};
 ghost use lib.ListN.{length};
 use clock::PacketMillis;
 use clock::PacketTicks;
@@ -21,6 +25,7 @@ use libc::STDOUT_FILENO;
 use payload::Contents;
 use payload::Reading;
 use refusal::Refusal;
+use writer::Writing;
 
 // ---- writing
 
@@ -135,12 +140,13 @@ fn with_digit(text: &[u8], n: Number) -> Number {
     }
 }
 
+// The number of at most 20 digits that starts at an index; 0 where there is none.
 fn number_at(text: &[u8], start: usize) -> Number {
     let mut n = Number {
         value: 0,
         end: start,
     };
-    let mut left = text.len();
+    let mut left: usize = 20;
     while 0 < left {
         n = with_digit(text, n);
         left -= 1;
@@ -148,9 +154,25 @@ fn number_at(text: &[u8], start: usize) -> Number {
     n
 }
 
-// ---- a payload out of its text
+// The octet at an index, or 0 where the text has ended.
+fn octet_at(text: &[u8], at: usize) -> u8 {
+    if text.len() <= at {
+        return 0;
+    }
+    text[at]
+}
 
-// Where the text is read, where the payload ends, where the group starts, and the octets that a `*` repeats.
+// The next index, unless the text has ended.
+fn skip(text: &[u8], at: usize) -> usize {
+    if text.len() <= at {
+        return at;
+    }
+    at + 1
+}
+
+// ---- a payload out of its text, or rows, each number as two octets
+
+// Where the text is read, where the octets end, where the group starts, and the octets that a `*` repeats.
 struct Cursor {
     at: usize,
     end: usize,
@@ -158,44 +180,43 @@ struct Cursor {
     last: usize,
 }
 
-fn put_octet(payload: &mut [u8], end: usize, octet: u8) -> usize {
-    if payload.len() <= end {
+fn put_octet(list: &mut [u8], end: usize, octet: u8) -> usize {
+    if list.len() <= end {
         return end;
     }
-    payload[end] = octet;
+    list[end] = octet;
     end + 1
 }
 
 // The octet that stands `last` before the end, once more.
-fn put_again(payload: &mut [u8], end: usize, last: usize) -> usize {
+fn put_again(list: &mut [u8], end: usize, last: usize) -> usize {
     if end < last {
         return end;
     }
     let from = end - last;
-    if payload.len() <= end {
+    if list.len() <= end {
         return end;
     }
-    payload[end] = payload[from];
+    list[end] = list[from];
     end + 1
 }
 
-// The last octets, so many, once more.
-fn put_group(payload: &mut [u8], start: usize, last: usize) -> usize {
-    let mut end = start;
-    let mut left = last;
-    while 0 < left {
-        end = put_again(payload, end, last);
-        left -= 1;
+// At most 1501, which is more than a case may have.
+fn capped(n: usize) -> usize
+    ensures { λ r. ⌜ r ≤ 1501 ⌝ }
+{
+    if n < 1501 {
+        return n;
     }
-    end
+    1501
 }
 
-// The same, until they stand there so many times.
-fn repeat(payload: &mut [u8], start: usize, last: usize, times: usize) -> usize {
+// The last octets, so many, until they stand there so many times.
+fn repeat(list: &mut [u8], start: usize, last: usize, times: usize) -> usize {
     let mut end = start;
-    let mut left = times;
-    while 1 < left {
-        end = put_group(payload, end, last);
+    let mut left = capped(last) * capped(times);
+    while last < left {
+        end = put_again(list, end, last);
         left -= 1;
     }
     end
@@ -214,7 +235,7 @@ fn close_group(c: Cursor) -> Cursor {
 }
 
 // A mark, behind which the cursor stands.
-fn put_mark(payload: &mut [u8], text: &[u8], c: Cursor, x: u8) -> Cursor {
+fn put_mark(list: &mut [u8], text: &[u8], c: Cursor, x: u8) -> Cursor {
     if x == b'(' {
         return Cursor {
             at: c.at,
@@ -230,7 +251,7 @@ fn put_mark(payload: &mut [u8], text: &[u8], c: Cursor, x: u8) -> Cursor {
         let n = number_at(text, c.at);
         return Cursor {
             at: n.end,
-            end: repeat(payload, c.end, c.last, n.value),
+            end: repeat(list, c.end, c.last, n.value),
             group: c.group,
             last: c.last,
         };
@@ -238,39 +259,57 @@ fn put_mark(payload: &mut [u8], text: &[u8], c: Cursor, x: u8) -> Cursor {
     c
 }
 
-// One mark, or the two digits of an octet.
-fn put_next(payload: &mut [u8], text: &[u8], c: Cursor) -> Cursor {
+// A number of a row. The cursor stays in front of one that is too large.
+fn put_number(list: &mut [u8], text: &[u8], c: Cursor) -> Cursor {
+    let n = number_at(text, c.at);
+    if 65535 < n.value {
+        return c;
+    }
+    let middle = put_octet(list, c.end, (n.value / 256) as u8);
+    Cursor {
+        at: n.end,
+        end: put_octet(list, middle, (n.value % 256) as u8),
+        group: c.group,
+        last: 2,
+    }
+}
+
+// One mark, a number of a row, or the two digits of an octet. The cursor stays in front of anything else.
+fn put_next(list: &mut [u8], text: &[u8], c: Cursor, rows: bool) -> Cursor {
     let at = c.at;
     if text.len() <= at {
         return c;
     }
     let x = text[at];
     let next = at + 1;
-    let behind = Cursor {
-        at: next,
-        end: c.end,
-        group: c.group,
-        last: c.last,
-    };
-    if x < b'0' {
-        return put_mark(payload, text, behind, x);
-    }
     if x == b':' {
-        return behind;
+        return c;
+    }
+    if x < b'0' {
+        let behind = Cursor {
+            at: next,
+            end: c.end,
+            group: c.group,
+            last: c.last,
+        };
+        return put_mark(list, text, behind, x);
+    }
+    if rows {
+        return put_number(list, text, c);
     }
     if text.len() <= next {
-        return behind;
+        return c;
     }
     Cursor {
         at: next + 1,
-        end: put_octet(payload, c.end, digit(x) * 16 + digit(text[next])),
+        end: put_octet(list, c.end, digit(x) * 16 + digit(text[next])),
         group: c.group,
         last: 1,
     }
 }
 
-// Puts the octets that the text gives from an index on, and answers how many.
-fn put_text(payload: &mut [u8], text: &[u8], start: usize) -> usize {
+// Puts the rows, or the octets, that the text gives from an index on.
+fn put_text(list: &mut [u8], text: &[u8], start: usize, rows: bool) -> Cursor {
     let mut c = Cursor {
         at: start,
         end: 0,
@@ -279,13 +318,33 @@ fn put_text(payload: &mut [u8], text: &[u8], start: usize) -> usize {
     };
     let mut left = text.len();
     while 0 < left {
-        c = put_next(payload, text, c);
+        c = put_next(list, text, c, rows);
         left -= 1;
     }
-    c.end
+    c
+}
+
+fn pair(high: u8, low: u8) -> u16 {
+    high as u16 * 256 + low as u16
+}
+
+// Fills in the numbers that a list of octets gives.
+fn fill(rows: &mut [u16], list: &[u8])
+    requires { ⌜ length (now list) ≤ 2 * length (now rows) ⌝ }
+{
+    let n = list.len() / 2;
+    let mut i = 0;
+    while i < n {
+        rows[i] = pair(list[2 * i], list[2 * i + 1]);
+        i += 1;
+    }
 }
 
 // ---- cases
+
+fn malformed() {
+    say(b" malformed");
+}
 
 fn say_survey(payload: &[u8]) {
     let contents = payload::survey(payload);
@@ -324,9 +383,11 @@ fn say_reading(payload: &[u8], rows: &mut [u16], bodies: &mut [u8]) {
 
 fn read_case(payload: &[u8], numbers: usize, octets: usize) {
     if 410 < numbers {
+        malformed();
         return;
     }
     if 1410 < octets {
+        malformed();
         return;
     }
     let mut rows = [99u16; 410];
@@ -347,6 +408,7 @@ fn say_views<'a>(payload: &'a [u8], row: usize, stand_in: &'a [u8]) {
 
 fn view_case(payload: &[u8], row: usize, octets: usize) {
     if 10 < octets {
+        malformed();
         return;
     }
     let stand_in = [0x5au8; 10];
@@ -361,38 +423,100 @@ fn time_case(rate: usize, frames: usize) {
     }
 }
 
-// A case by its first letter.
+fn say_writing(rows: &[u16], bodies: &[u8], out: &mut [u8], octets: usize)
+    requires { ⌜ octets ≤ length (now out) ⌝ }
+{
+    let answer = writer::write(rows, bodies, &mut out[..octets]);
+    match answer {
+        Writing::Refused(r) => say_refused(r),
+        Writing::Written(n) => say_number(n),
+    }
+    say(b";");
+    say_octets(out);
+}
+
+fn write_case(rows: &[u16], bodies: &[u8], octets: usize) {
+    if 1410 < octets {
+        malformed();
+        return;
+    }
+    let end = octets + 10;
+    let mut out = [0xeeu8; 1420];
+    say_writing(rows, bodies, &mut out[..end], octets);
+}
+
+// The rows end at an index, in front of a colon and the bodies.
+fn rows_case(line: &[u8], at: usize, list: &[u8], octets: usize)
+    requires { ⌜ length (now list) ≤ 1500 ⌝ }
+{
+    let n = list.len() / 2;
+    let mut rows = [0u16; 750];
+    fill(&mut rows, list);
+    let mut bodies = [0u8; 1501];
+    let c = put_text(&mut bodies, line, skip(line, at), false);
+    let m = c.end;
+    if 1500 < m || c.at < line.len() || octet_at(line, at) != b':' {
+        malformed();
+        return;
+    }
+    write_case(&rows[..n], &bodies[..m], octets);
+}
+
+// The octets lent and the rows stand behind a name of five letters.
+fn write_line(line: &[u8]) {
+    let octets = number_at(line, 6);
+    let mut list = [0u8; 1501];
+    let c = put_text(&mut list, line, octets.end, true);
+    let n = c.end;
+    if 1500 < n {
+        malformed();
+        return;
+    }
+    rows_case(line, c.at, &list[..n], octets.value);
+}
+
+// A case of another kind, by its first letter.
 fn case(name: u8, first: usize, second: usize, payload: &[u8]) {
     if name == b'r' {
-        say(b" ->");
         read_case(payload, first, second);
+        return;
     }
     if name == b'v' {
-        say(b" ->");
         view_case(payload, first, second);
+        return;
     }
     if name == b't' {
-        say(b" ->");
         time_case(first, second);
+        return;
     }
+    malformed();
 }
 
 // The two numbers and the payload stand behind a name of four letters.
-fn case_in(line: &[u8]) {
-    if line.len() < 5 {
-        return;
-    }
+fn case_line(line: &[u8], name: u8) {
     let first = number_at(line, 5);
-    if line.len() <= first.end {
+    let second = number_at(line, skip(line, first.end));
+    let mut payload = [0u8; 1501];
+    let c = put_text(&mut payload, line, skip(line, second.end), false);
+    let n = c.end;
+    if 1500 < n || c.at < line.len() {
+        malformed();
         return;
     }
-    let second = number_at(line, first.end + 1);
-    let mut payload = [0u8; 1500];
-    let n = put_text(&mut payload, line, second.end);
-    if 1500 < n {
+    case(name, first.value, second.value, &payload[..n]);
+}
+
+fn say_answer(line: &[u8]) {
+    let name = octet_at(line, 0);
+    if name == b'#' {
         return;
     }
-    case(line[0], first.value, second.value, &payload[..n]);
+    say(b" ->");
+    if name == b'w' {
+        write_line(line);
+        return;
+    }
+    case_line(line, name);
 }
 
 // Octet i is in the line that starts at an index. Goes through the line if i is its end, and answers where the line of
@@ -406,7 +530,7 @@ fn end_line(input: &[u8], start: usize, i: usize) -> usize
     }
     let line = &input[start..i];
     say(line);
-    case_in(line);
+    say_answer(line);
     say(b"\n");
     i + 1
 }

@@ -4,6 +4,7 @@ ghost use mathlib.Core.List.{[]};
 ghost use Prim.Native.Nat.{_+_, _-_, _*_, _≤_, _<_};
 ghost use lib.ListN.{length, getD, set};
 ghost use lib.Seq.{paste};
+ghost use Rattle.refusal.specs.Numbers.{tooLong};
 ghost use Rattle.wire.specs.Frame.{bps2400, bps1200, bps600, noise, tsvcis, size, countOf};
 ghost use Rattle.wire.specs.Walk.{beside};
 ghost use Rattle.writer.specs.Rows.{tcOf, rowOf, rowByRow, totalOf, checkOf};
@@ -236,6 +237,16 @@ fn next_row(rows: &[u16], at: usize, rate: u32) -> Told
     }
 }
 
+// 1, at the octets that a payload has at most.
+fn too_long() -> RowCheck
+    ensures { λ r. ⌜ r ≡ RowCheck.Refused (record { number = tooLong; place = 1400 }) ⌝ }
+{
+    RowCheck::Refused(Refusal {
+        number: refusal::TOO_LONG,
+        place: 1400,
+    })
+}
+
 // "Row by row" over n rows; then 1 for the total.
 fn row_by_row(rows: &[u16], n: usize) -> RowCheck
     requires { ⌜ (length (now rows) ≡ 2 * n) × (n ≤ 200) ⌝ }
@@ -261,10 +272,7 @@ fn row_by_row(rows: &[u16], n: usize) -> RowCheck
         }
     }
     if 1400 < wire {
-        return RowCheck::Refused(Refusal {
-            number: refusal::TOO_LONG,
-            place: 1400,
-        });
+        return too_long();
     }
     RowCheck::Sound(Totals {
         rows: n,
@@ -286,10 +294,7 @@ pub fn check_rows(rows: &[u16]) -> RowCheck
     }
     let n = len / 2;
     if 200 < n {
-        return RowCheck::Refused(Refusal {
-            number: refusal::TOO_LONG,
-            place: 1400,
-        });
+        return too_long();
     }
     row_by_row(rows, n)
 }

@@ -1,4 +1,4 @@
--- `vectors::put_text` meets its contract: what is left to do grows less, and the payload keeps its length.
+-- `vectors::put_text` meets its contract: what is left to do grows less, and the list keeps its length.
 use mathlib.Core.Path.{_≡_}
 use borrow.Author.Needs.{needs}
 use lib.ListN.{length}
@@ -6,10 +6,10 @@ use Rattle.vectors.proofs.put_text.Statement.{statement}
 use Rattle.vectors.proofs.put_text.Tie as tie
 
 abbrev Inv-loop : tie.InvT-loop
-Inv-loop payload₀ text start c₀ left₀ payload c left = length payload ≡ length payload₀
+Inv-loop list₀ text start rows c₀ left₀ list c left = length list ≡ length list₀
 
 abbrev μ-loop : tie.MeasureT-loop
-μ-loop payload₀ text start c₀ left₀ payload c left = left
+μ-loop list₀ text start rows c₀ left₀ list c left = left
 
 loop-holds : tie.Need-loop-holds Inv-loop μ-loop
 loop-holds c = search needs

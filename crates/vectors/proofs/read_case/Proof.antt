@@ -6,8 +6,14 @@ use lib.Seq.{length-take-le}
 use Rattle.vectors.proofs.read_case.Statement.{statement}
 use Rattle.vectors.proofs.read_case.Tie as tie
 
+malformed-requires : tie.Need-malformed-requires
+malformed-requires c κs = search needs
+
 returns : tie.Need-returns
 returns c = search needs
+
+malformed-requires-2 : tie.Need-malformed-requires-2
+malformed-requires-2 c κs = search needs
 
 returns-2 : tie.Need-returns-2
 returns-2 c = search needs
@@ -52,7 +58,9 @@ pub read-case-spec : {M : Type 1} → statement M
 read-case-spec =
     tie.close
     (tie.spec
+    malformed-requires
     returns
+    malformed-requires-2
     returns-2
     array-borrow-prefix-rows
     slice-aggregate-say-reading

@@ -1,21 +1,32 @@
--- `vectors::repeat` meets its contract: what is left to do grows less, and the payload keeps its length.
+-- `vectors::repeat` meets its contract: what is left to do grows less, and the list keeps its length.
 use mathlib.Core.Path.{_≡_}
+use native.Mathlib.Nat.{mul-le-mul}
+use native.Mathlib.Omega.{arith}
 use borrow.Author.Needs.{needs}
 use lib.ListN.{length}
 use Rattle.vectors.proofs.repeat.Statement.{statement}
 use Rattle.vectors.proofs.repeat.Tie as tie
 
 abbrev Inv-loop : tie.InvT-loop
-Inv-loop payload₀ start last times end₀ left₀ payload end left = length payload ≡ length payload₀
+Inv-loop list₀ start last times end₀ left₀ list end left = length list ≡ length list₀
 
 abbrev μ-loop : tie.MeasureT-loop
-μ-loop payload₀ start last times end₀ left₀ payload end left = left
+μ-loop list₀ start last times end₀ left₀ list end left = left
+
+capped-requires : tie.Need-capped-requires Inv-loop μ-loop
+capped-requires c κs = search needs
+
+capped-requires-2 : tie.Need-capped-requires-2 Inv-loop μ-loop
+capped-requires-2 c κs = search needs
+
+mul-left : tie.Need-mul-left Inv-loop μ-loop
+mul-left c = omega (arith, mul-le-mul (c .before .capped .ensures) (c .capped2 .ensures))
 
 loop-holds : tie.Need-loop-holds Inv-loop μ-loop
 loop-holds c = search needs
 
-put-group-requires : tie.Need-put-group-requires Inv-loop μ-loop
-put-group-requires c κs = search needs
+put-again-requires : tie.Need-put-again-requires Inv-loop μ-loop
+put-again-requires c κs = search needs
 
 sub-left : tie.Need-sub-left Inv-loop μ-loop
 sub-left c = search needs
@@ -38,8 +49,11 @@ repeat-spec =
     (tie.spec
     Inv-loop
     μ-loop
+    capped-requires
+    capped-requires-2
+    mul-left
     loop-holds
-    put-group-requires
+    put-again-requires
     sub-left
     loop-less
     loop-again

@@ -6,6 +6,9 @@ use lib.Seq.{length-take-le}
 use Rattle.vectors.proofs.view_case.Statement.{statement}
 use Rattle.vectors.proofs.view_case.Tie as tie
 
+malformed-requires : tie.Need-malformed-requires
+malformed-requires c κs = search needs
+
 returns : tie.Need-returns
 returns c = search needs
 
@@ -25,6 +28,7 @@ pub view-case-spec : {M : Type 1} → statement M
 view-case-spec =
     tie.close
     (tie.spec
+    malformed-requires
     returns
     array-share-prefix-stand-in
     slice-aggregate-say-views

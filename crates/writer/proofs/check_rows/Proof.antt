@@ -9,8 +9,11 @@ use Rattle.writer.proofs.check_rows.Tie as tie
 returns : tie.Need-returns
 returns c = checks _ _ (ap rowAnswerOf (sym (check-odd _ (c .if1 .taken))))
 
+too-long-requires : tie.Need-too-long-requires
+too-long-requires c κs = search needs
+
 returns-2 : tie.Need-returns-2
-returns-2 c = checks _ _ (ap rowAnswerOf (sym (check-many _ (c .before .if1 .left) (c .if2 .taken))))
+returns-2 c = checks _ _ (c .too-long .ensures ∙ ap rowAnswerOf (sym (check-many _ (c .before .before .if1 .left) (c .before .if2 .taken))))
 
 row-by-row-requires : tie.Need-row-by-row-requires
 row-by-row-requires c κs = search needs
@@ -19,4 +22,4 @@ returns-3 : tie.Need-returns-3
 returns-3 c = checks _ _ (c .row-by-row .ensures ∙ ap rowAnswerOf (sym (check-rows _ (c .before .before .if1 .left) (c .before .if2 .left))))
 
 pub check-rows-spec : {M : Type 1} → statement M
-check-rows-spec = tie.close (tie.spec returns returns-2 row-by-row-requires returns-3)
+check-rows-spec = tie.close (tie.spec returns too-long-requires returns-2 row-by-row-requires returns-3)

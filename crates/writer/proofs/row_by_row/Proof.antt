@@ -1,3 +1,4 @@
+use mathlib.Core.Path.{_∙_}
 use Prim.Native.Nat.{_-_, _≤_}
 use native.Mathlib.Omega.{arith}
 use borrow.Author.Needs.{needs}
@@ -56,8 +57,11 @@ loop-less c = omega arith
 loop-again : tie.Need-loop-again Inv-loop μ-loop
 loop-again c = (row (c .before .before) .then, omega arith)
 
+too-long-requires : tie.Need-too-long-requires Inv-loop μ-loop
+too-long-requires c κs = search needs
+
 returns-2 : tie.Need-returns-2 Inv-loop μ-loop
-returns-2 c = passed-long _ _ _ _ _ (c .before .before .loop .inv .0) _ (c .before .before .before .before .pre .0) (c .before .loop-test .left) (c .if1 .taken)
+returns-2 c = c .too-long .ensures ∙ passed-long _ _ _ _ _ (c .before .before .before .loop .inv .0) _ (c .before .before .before .before .before .pre .0) (c .before .before .loop-test .left) (c .before .if1 .taken)
 
 returns-3 : tie.Need-returns-3 Inv-loop μ-loop
 returns-3 c = passed-end _ _ _ _ _ (c .before .before .loop .inv .0) _ (c .before .before .before .before .pre .0) (c .before .loop-test .left) (c .before .before .loop .inv .1) (c .if1 .left)
@@ -81,5 +85,6 @@ row-by-row-spec =
     add-i
     loop-less
     loop-again
+    too-long-requires
     returns-2
     returns-3)

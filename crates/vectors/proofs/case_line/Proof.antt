@@ -1,22 +1,16 @@
--- `vectors::case_in` meets its contract: the octets that are lent are those of the text.
+-- `vectors::case_line` meets its contract: the octets that are lent are those of the text.
 use mathlib.Core.Path.{sym}
 use native.Mathlib.Omega.{arith}
 use borrow.Author.Needs.{needs}
 use lib.Seq.{length-take-le}
-use Rattle.vectors.proofs.case_in.Statement.{statement}
-use Rattle.vectors.proofs.case_in.Tie as tie
-
-returns : tie.Need-returns
-returns c = search needs
+use Rattle.vectors.proofs.case_line.Statement.{statement}
+use Rattle.vectors.proofs.case_line.Tie as tie
 
 number-at-requires : tie.Need-number-at-requires
 number-at-requires c κs = search needs
 
-returns-2 : tie.Need-returns-2
-returns-2 c = search needs
-
-add-number-at : tie.Need-add-number-at
-add-number-at c = search needs
+skip-requires : tie.Need-skip-requires
+skip-requires c κs = search needs
 
 number-at-requires-2 : tie.Need-number-at-requires-2
 number-at-requires-2 c κs = search needs
@@ -24,14 +18,17 @@ number-at-requires-2 c κs = search needs
 slice-aggregate-put-text : tie.Need-slice-aggregate-put-text
 slice-aggregate-put-text c = search needs
 
+skip-requires-2 : tie.Need-skip-requires-2
+skip-requires-2 c κs = search needs
+
 put-text-requires : tie.Need-put-text-requires
 put-text-requires c κs = search needs
 
-returns-3 : tie.Need-returns-3
-returns-3 c = search needs
+malformed-requires : tie.Need-malformed-requires
+malformed-requires c κs = search needs
 
-shared-slice-read-case : tie.Need-shared-slice-read-case
-shared-slice-read-case c = search needs
+returns : tie.Need-returns
+returns c = search needs
 
 array-share-prefix-payload : tie.Need-array-share-prefix-payload
 array-share-prefix-payload c = search needs
@@ -42,23 +39,22 @@ slice-aggregate-case c = sym (length-take-le _ _ (omega arith))
 case-requires : tie.Need-case-requires
 case-requires c κs = search needs
 
-returns-4 : tie.Need-returns-4
-returns-4 c = search needs
+returns-2 : tie.Need-returns-2
+returns-2 c = search needs
 
-pub case-in-spec : {M : Type 1} → statement M
-case-in-spec =
+pub case-line-spec : {M : Type 1} → statement M
+case-line-spec =
     tie.close
     (tie.spec
-    returns
     number-at-requires
-    returns-2
-    add-number-at
+    skip-requires
     number-at-requires-2
     slice-aggregate-put-text
+    skip-requires-2
     put-text-requires
-    returns-3
-    shared-slice-read-case
+    malformed-requires
+    returns
     array-share-prefix-payload
     slice-aggregate-case
     case-requires
-    returns-4)
+    returns-2)
