@@ -177,6 +177,9 @@ pub fn name(unread: &[u8]) -> Found
     if x < 64 {
         return Found::Got(shape_2400());
     }
+    if x < 128 {
+        return Found::Got(shape_600());
+    }
     if 191 < x {
         return last_count(unread, x);
     }
