@@ -6,7 +6,7 @@ use native.Mathlib.Omega.{arith}
 use native.Mathlib.Nat.{zero-add}
 use lib.ListN.{length, take, drop, length-drop}
 use lib.Seq.{length-take-le}
-use Rattle.wire.specs.declared.Shape.{Shape}
+use Rattle.views.specs.declared.Sizes.{Sizes}
 use Rattle.wire.specs.Walk.{readOf}
 use Rattle.payload.specs.Reading.{reportOf, readInto, Outcome}
 use Rattle.payload.specs.Promise.{Reads}
@@ -34,7 +34,7 @@ module _ (p : List ℕ) (row : ℕ) {q : Place} (is : q ≡ placeOf (readOf p) r
   pub frame-none : (s : List ℕ) → q ≡ Missing → record { stand_in = 1; start = 0; length = length s } ≡ spanOf (frameOr (placeOf (readOf p) row) (lent 0 p) (lent 1 s))
   frame-none s e = ap (λ (y : Place). spanOf (frameOr y (lent 0 p) (lent 1 s))) (sym e ∙ is)
 
-  module _ (a : ℕ) (x : Shape) (e : q ≡ At a x) where
+  module _ (a : ℕ) (x : Sizes) (e : q ≡ At a x) where
     pub augmentation-plain : x .tc ≡ 0 → record { stand_in = 0; start = 0; length = 0 } ≡ spanOf (augmentationOf (placeOf (readOf p) row) (lent 0 p))
     augmentation-plain z = ap spanOf (sym (not-augmented row (lent 0 p) a x z)) ∙ ap (λ (y : Place). spanOf (augmentationOf y (lent 0 p))) (sym e ∙ is)
 

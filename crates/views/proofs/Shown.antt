@@ -10,33 +10,33 @@ use lib.Seq.{drop-at, take-at, drop-drop, drop-append-le, take-append-le, drop-s
 use borrow.Author.Tests.{eq-eqb, ne-eqb}
 use Rattle.wire.specs.Frame.{Frame, LegalFrame, Octets, size, code, countOf, wireLength, wire, octetsOf, OfRate, Legal}
 use Rattle.wire.specs.Walk.{Walk, at, refused, readOf, shapeOf}
-use Rattle.wire.specs.declared.Shape.{Shape}
 use Rattle.wire.proofs.Tables.{below-or, size-pos}
 use Rattle.wire.proofs.Octets.{length-wire}
 use Rattle.wire.proofs.Complete.{octets-append, octets-snoc, middle, Snoc, none, snoc, from-end}
 use Rattle.wire.proofs.Sound.{sound, Ended, read-ends}
 use Rattle.payload.proofs.Seen.{reads-it, none-gives}
-use Rattle.views.specs.View.{spot, placeOf, Part, frameOr, emptyPart, augmentationOf, NoRow, FrameView, AugmentationView}
+use Rattle.views.specs.View.{sizesOf, spot, placeOf, Part, frameOr, emptyPart, augmentationOf, NoRow, FrameView, AugmentationView}
+use Rattle.views.specs.declared.Sizes.{Sizes}
 use Rattle.views.specs.declared.Place.{Place}
 use Rattle.views.specs.declared.Place.the-variants.{At, Missing}
 
 -- ---- places and splits
 
 -- a sequence from an offset a on has the frame f behind `row` others, at the place b, of the numbers x
-pub record Split (a : ℕ) (fs : List Frame) (row b : ℕ) (x : Shape) : Type 0 where
+pub record Split (a : ℕ) (fs : List Frame) (row b : ℕ) (x : Sizes) : Type 0 where
   pub gs : List Frame
   pub f : Frame
   pub hs : List Frame
   pub is : fs ≡ gs ++ (f ∷ hs)
   pub row-is : row ≡ length gs
   pub place : b ≡ a + length (octetsOf gs)
-  pub shape : x ≡ shapeOf (f .kind) (f .tc)
+  pub shape : x ≡ sizesOf (shapeOf (f .kind) (f .tc))
 
-split : (r a : ℕ) (fs : List Frame) (row b : ℕ) (x : Shape) → OfRate r fs → spot a fs row ≡ At b x → Split a fs row b x
+split : (r a : ℕ) (fs : List Frame) (row b : ℕ) (x : Sizes) → OfRate r fs → spot a fs row ≡ At b x → Split a fs row b x
 split r a [] row b x o e = absurd (let z : _≡_ {A = ℕ} 0 1 = cc in omega arith)
 split r a (f ∷ fs) zero b x o e =
     let q : b ≡ a = cc in
-    let s : x ≡ shapeOf (f .kind) (f .tc) = cc in
+    let s : x ≡ sizesOf (shapeOf (f .kind) (f .tc)) = cc in
     record { gs = []; f = f; hs = fs; is = refl; row-is = refl; place = omega arith; shape = s }
 split r a (f ∷ fs) (suc row) b x o e =
     let s = split r (a + wireLength (f .kind) (f .tc)) fs row b x (o .2) e in
@@ -51,12 +51,12 @@ split r a (f ∷ fs) (suc row) b x o e =
     }
 
 spot-at : (r a : ℕ) (gs : List Frame) (f : Frame) (hs : List Frame) → OfRate r (gs ++ (f ∷ hs))
-    → spot a (gs ++ (f ∷ hs)) (length gs) ≡ At (a + length (octetsOf gs)) (shapeOf (f .kind) (f .tc))
+    → spot a (gs ++ (f ∷ hs)) (length gs) ≡ At (a + length (octetsOf gs)) (sizesOf (shapeOf (f .kind) (f .tc)))
 spot-at r a [] f hs o = rw (add-zero a)
 spot-at r a (g ∷ gs) f hs o =
     let n : a + wireLength (g .kind) (g .tc) + length (octetsOf gs) ≡ a + length (wire g ++ octetsOf gs) =
     omega (arith, length-append (wire g) (octetsOf gs), length-wire (g .kind) (g .tc) (g .body) (o .0 .long)) in
-    spot-at r (a + wireLength (g .kind) (g .tc)) gs f hs (o .2) ∙ ap (λ (m : ℕ). At m (shapeOf (f .kind) (f .tc))) n
+    spot-at r (a + wireLength (g .kind) (g .tc)) gs f hs (o .2) ∙ ap (λ (m : ℕ). At m (sizesOf (shapeOf (f .kind) (f .tc)))) n
 
 pub spot-past : (a : ℕ) (fs : List Frame) (row : ℕ) → length fs ≤ row → spot a fs row ≡ Missing
 spot-past a [] row h = refl
@@ -108,14 +108,14 @@ module _ (gs : List Frame) (f : Frame) (hs : List Frame) (l : LegalFrame f) wher
 
 module _ (p : List ℕ) (row : ℕ) where
   pub place-at : (gs : List Frame) (f : Frame) (hs : List Frame) → Legal (gs ++ (f ∷ hs)) → octetsOf (gs ++ (f ∷ hs)) ≡ p → row ≡ length gs
-      → placeOf (readOf p) row ≡ At (length (octetsOf gs)) (shapeOf (f .kind) (f .tc))
+      → placeOf (readOf p) row ≡ At (length (octetsOf gs)) (sizesOf (shapeOf (f .kind) (f .tc)))
   unfolding placeOf
   place-at gs f hs l e r =
       let z : 0 + length (octetsOf gs) ≡ length (octetsOf gs) = omega arith in
       ap (λ (w : Walk). placeOf w row) (reads-it p (gs ++ (f ∷ hs)) l e)
       ∙ ap (spot 0 (gs ++ (f ∷ hs))) r
       ∙ spot-at (l .0) 0 gs f hs (l .1)
-      ∙ ap (λ (m : ℕ). At m (shapeOf (f .kind) (f .tc))) z
+      ∙ ap (λ (m : ℕ). At m (sizesOf (shapeOf (f .kind) (f .tc)))) z
 
   pub place-missing : Octets p → NoRow p row → placeOf (readOf p) row ≡ Missing
   unfolding placeOf
@@ -129,11 +129,11 @@ module _ (p : List ℕ) (row : ℕ) where
           ap (λ (w : Walk). placeOf w row) e ∙ spot-past 0 fs row (h fs (s .0) (s .1))
 
   -- what is there, stands within the payload
-  pub record Within (a : ℕ) (x : Shape) : Type 0 where
+  pub record Within (a : ℕ) (x : Sizes) : Type 0 where
     pub end : a + x .wire ≤ length p
     pub body : x .size + x .tc ≤ x .wire
 
-  pub within : Octets p → (a : ℕ) (x : Shape) {q : Place} → q ≡ At a x → q ≡ placeOf (readOf p) row → Within a x
+  pub within : Octets p → (a : ℕ) (x : Sizes) {q : Place} → q ≡ At a x → q ≡ placeOf (readOf p) row → Within a x
   unfolding placeOf
   within o a x eq is = go (readOf p) refl (read-ends p) (sym is ∙ eq)
     where
@@ -149,9 +149,9 @@ module _ (p : List ℕ) (row : ℕ) where
           let m = middle (s .0 .0) (t .gs) f (t .hs) (subst (λ (y : List Frame). OfRate (s .0 .0) y) (t .is) (s .0 .1)) in
           let i = own-inside (t .gs) f (t .hs) (m .0) in
           let q : octetsOf (t .gs ++ (f ∷ t .hs)) ≡ p = ap octetsOf (sym (t .is)) ∙ s .1 in
-          let n : x .wire ≡ wireLength (f .kind) (f .tc) = ap (λ (y : Shape). y .wire) (t .shape) in
-          let k : x .size ≡ size (f .kind) = ap (λ (y : Shape). y .size) (t .shape) in
-          let c : x .tc ≡ f .tc = ap (λ (y : Shape). y .tc) (t .shape) in
+          let n : x .wire ≡ wireLength (f .kind) (f .tc) = ap (λ (y : Sizes). y .wire) (t .shape) in
+          let k : x .size ≡ size (f .kind) = ap (λ (y : Sizes). y .size) (t .shape) in
+          let c : x .tc ≡ f .tc = ap (λ (y : Sizes). y .tc) (t .shape) in
           record { end = omega (arith, t .place, ap length q); body = omega arith }
 
 -- ---- the two views
@@ -174,11 +174,11 @@ module _ {A : Type 0} (row : ℕ) (p : Part A) where
     missing = λ h. e ∙ ap (λ (q : Place). frameOr q p s) (place-missing (p .octets) row o h);
   }
 
-  pub augmented : (a : ℕ) (x : Shape) → (x .tc ≡ 0 → ⊥)
+  pub augmented : (a : ℕ) (x : Sizes) → (x .tc ≡ 0 → ⊥)
       → augmentationOf (At a x) p ≡ record { block = p .block; start = p .start + (a + x .size); octets = take (x .tc) (drop (a + x .size) (p .octets)) }
   augmented a x h = simp (ne-eqb (x .tc) 0 h)
 
-  pub not-augmented : (a : ℕ) (x : Shape) → x .tc ≡ 0 → augmentationOf (At a x) p ≡ emptyPart p
+  pub not-augmented : (a : ℕ) (x : Sizes) → x .tc ≡ 0 → augmentationOf (At a x) p ≡ emptyPart p
   not-augmented a x h = simp (eq-eqb (x .tc) 0 h)
 
   pub augmentation-view : (r : Part A) → Octets (p .octets) → r ≡ augmentationOf (placeOf (readOf (p .octets)) row) p → AugmentationView row p r
@@ -186,12 +186,12 @@ module _ {A : Type 0} (row : ℕ) (p : Part A) where
     answer = e;
     shown = λ gs f hs l g n some.
         e ∙ ap (λ (q : Place). augmentationOf q p) (place-at (p .octets) row gs f hs l g n)
-        ∙ augmented (length (octetsOf gs)) (shapeOf (f .kind) (f .tc)) (λ z. omega arith)
+        ∙ augmented (length (octetsOf gs)) (sizesOf (shapeOf (f .kind) (f .tc))) (λ z. omega arith)
         ∙ ap (λ (y : List ℕ). record { block = p .block; start = p .start + (length (octetsOf gs) + size (f .kind)); octets = y })
         (ap (λ (y : List ℕ). take (f .tc) (drop (length (octetsOf gs) + size (f .kind)) y)) (sym g) ∙ own-augmentation gs f hs (legal-frame gs f hs l));
     none = λ gs f hs l g n z.
         e ∙ ap (λ (q : Place). augmentationOf q p) (place-at (p .octets) row gs f hs l g n)
-        ∙ not-augmented (length (octetsOf gs)) (shapeOf (f .kind) (f .tc)) z;
+        ∙ not-augmented (length (octetsOf gs)) (sizesOf (shapeOf (f .kind) (f .tc))) z;
     missing = λ h. e ∙ ap (λ (q : Place). augmentationOf q p) (place-missing (p .octets) row o h);
   }
 
@@ -233,7 +233,7 @@ module _ {A : Type 0} (row : ℕ) (p : Part A) (o : Octets (p .octets)) {q : Pla
   pub augmentation-missing : q ≡ Missing → AugmentationView row p (emptyPart p)
   augmentation-missing e = augmentation-view row p (emptyPart p) o (ap (λ (y : Place). augmentationOf y p) (sym e ∙ is))
 
-  module _ (a : ℕ) (x : Shape) (e : q ≡ At a x) where
+  module _ (a : ℕ) (x : Sizes) (e : q ≡ At a x) where
     pub frame-at : (s : Part A) → FrameView row p s (record { block = p .block; start = a + p .start; octets = take (a + x .wire - a) (drop a (p .octets)) })
     frame-at s =
         let em : a + p .start ≡ p .start + a = omega arith in

@@ -24,7 +24,7 @@ use Rattle.payload.specs.declared.Walked.the-variants as walked
 use Rattle.payload.proofs.Seen.{differ, View, over, not, view, went, stopped}
 use Rattle.payload.proofs.Held.{beside-keeps}
 use Rattle.payload.proofs.Onward.{read-run, grows, Onward, onward, onward-bad, onward-shape, onward-whole}
-use Rattle.views.specs.View.{spot, placeOf, ends, endOf, rowBefore, Holds}
+use Rattle.views.specs.View.{sizesOf, spot, placeOf, ends, endOf, rowBefore, Holds}
 use Rattle.views.specs.declared.Place.the-variants.{At, Missing}
 use Rattle.views.proofs.Shown.{spot-past}
 
@@ -82,7 +82,7 @@ sought-start p behind h =
 pub record Passed (p : List ℕ) (row u left : ℕ) (x : Shape) : Type 0 where
   pub room : x .wire ≤ u
   pub then : 0 < left → Sought p row (u - x .wire) (left - 1)
-  pub here : left ≡ 0 → At (u - x .wire) x ≡ placeOf (readOf p) row
+  pub here : left ≡ 0 → At (u - x .wire) (sizesOf x) ≡ placeOf (readOf p) row
 
 module _ (p : List ℕ) (row u left : ℕ) (h : Sought p row u left) where
   pos : 1 ≤ u

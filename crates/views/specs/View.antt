@@ -8,13 +8,18 @@ use lib.ListN.{length, take, drop}
 use Rattle.wire.specs.Frame.{Frame, size, wireLength, wire, octetsOf, Legal}
 use Rattle.wire.specs.Walk.{Walk, at, refused, readOf, shapeOf}
 use Rattle.wire.specs.declared.Shape.{Shape}
+use Rattle.views.specs.declared.Sizes.{Sizes}
 use Rattle.views.specs.declared.Place.{Place}
 use Rattle.views.specs.declared.Place.the-variants.{At, Missing}
 
--- row i of frames whose octets start at a: where its own start, and its numbers
+-- the sizes of a frame of these numbers
+abbrev pub sizesOf : Shape → Sizes
+sizesOf x = record { size = x .size; tc = x .tc; wire = x .wire }
+
+-- row i of frames whose octets start at a: where its own start, and its sizes
 abbrev pub spot : ℕ → List Frame → ℕ → Place
 spot a [] i = Missing
-spot a (f ∷ fs) zero = At a (shapeOf (f .kind) (f .tc))
+spot a (f ∷ fs) zero = At a (sizesOf (shapeOf (f .kind) (f .tc)))
 spot a (f ∷ fs) (suc i) = spot (a + wireLength (f .kind) (f .tc)) fs i
 
 -- the place of a row; missing "if the payload is refused or the row missing"

@@ -4,11 +4,17 @@ ghost use Rattle.wire.specs.Walk.{readOf};
 ghost use Rattle.views.specs.View.{placeOf, endOf, rowBefore, Holds, AugmentationShown, FrameShown};
 use payload::Walked;
 use wire::Found;
-use wire::Shape;
 
-// Where a row's frame starts in the payload, and its numbers.
+// A frame's octets: of its base, of its augmentation, and all on the wire.
+pub struct Sizes {
+    pub size: usize,
+    pub tc: usize,
+    pub wire: usize,
+}
+
+// Where a row's frame starts in the payload, and its sizes.
 pub enum Place {
-    At(usize, Shape),
+    At(usize, Sizes),
     Missing,
 }
 
@@ -61,7 +67,14 @@ pub fn locate(payload: &[u8], row: usize) -> Place
     let found = wire::name(&payload[..end]);
     match found {
         Found::Bad(_) => Place::Missing,
-        Found::Got(shape) => Place::At(end - shape.wire, shape),
+        Found::Got(shape) => Place::At(
+            end - shape.wire,
+            Sizes {
+                size: shape.size,
+                tc: shape.tc,
+                wire: shape.wire,
+            },
+        ),
     }
 }
 
