@@ -172,8 +172,8 @@ pub extern "C" fn moult_augmentation(payload: &[u8], row: usize) -> MoultPart
             start: 0,
             length: 0,
         },
-        Place::At(start, shape) => {
-            let tc = shape.tc;
+        Place::At(start, sizes) => {
+            let tc = sizes.tc;
             if tc == 0 {
                 return MoultPart {
                     stand_in: 0,
@@ -183,7 +183,7 @@ pub extern "C" fn moult_augmentation(payload: &[u8], row: usize) -> MoultPart
             }
             MoultPart {
                 stand_in: 0,
-                start: start + shape.size,
+                start: start + sizes.size,
                 length: tc,
             }
         }
@@ -202,10 +202,10 @@ pub extern "C" fn moult_frame_or(payload: &[u8], row: usize, stand_in: &[u8]) ->
             start: 0,
             length: stand_in.len(),
         },
-        Place::At(start, shape) => MoultPart {
+        Place::At(start, sizes) => MoultPart {
             stand_in: 0,
             start,
-            length: shape.wire,
+            length: sizes.wire,
         },
     }
 }

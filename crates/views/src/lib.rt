@@ -85,12 +85,12 @@ pub fn augmentation(payload: &[u8], row: usize) -> &[u8]
     let place = locate(payload, row);
     match place {
         Place::Missing => &payload[..0],
-        Place::At(start, shape) => {
-            let tc = shape.tc;
+        Place::At(start, sizes) => {
+            let tc = sizes.tc;
             if tc == 0 {
                 return &payload[..0];
             }
-            let from = start + shape.size;
+            let from = start + sizes.size;
             let to = from + tc;
             &payload[from..to]
         }
@@ -105,8 +105,8 @@ pub fn frame_or<'a>(payload: &'a [u8], row: usize, stand_in: &'a [u8]) -> &'a [u
     let place = locate(payload, row);
     match place {
         Place::Missing => stand_in,
-        Place::At(start, shape) => {
-            let end = start + shape.wire;
+        Place::At(start, sizes) => {
+            let end = start + sizes.wire;
             &payload[start..end]
         }
     }
