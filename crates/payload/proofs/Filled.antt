@@ -145,6 +145,7 @@ turned-fits w = record {
     coded = w .coded;
   };
   plain = w .frame .plain;
+  low = w .frame .low;
 }
 
 -- the same, at what the calls left

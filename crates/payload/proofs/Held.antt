@@ -43,6 +43,7 @@ pub record Sized (u : ℕ) (x : Shape) : Type 0 where
   pub less : x .tc < 256
   pub parts : x .size + x .tc + x .count ≡ x .wire
   pub plain : x .kind ≡ 1 → x ≡ shapeOf bps2400 0
+  pub low : x .kind ≡ 3 → x ≡ shapeOf bps600 0
 
 plain-shape : (k : Kind) (t : ℕ) → LegalTc k t → number k ≡ 1 → shapeOf k t ≡ shapeOf bps2400 0
 plain-shape bps2400 t l e = ap (shapeOf bps2400) l
@@ -50,6 +51,13 @@ plain-shape bps1200 t l e = absurd (omega arith)
 plain-shape bps600 t l e = absurd (omega arith)
 plain-shape noise t l e = absurd (omega arith)
 plain-shape tsvcis t l e = absurd (omega arith)
+
+low-shape : (k : Kind) (t : ℕ) → LegalTc k t → number k ≡ 3 → shapeOf k t ≡ shapeOf bps600 0
+low-shape bps2400 t l e = absurd (omega arith)
+low-shape bps1200 t l e = absurd (omega arith)
+low-shape bps600 t l e = ap (shapeOf bps600) l
+low-shape noise t l e = absurd (omega arith)
+low-shape tsvcis t l e = absurd (omega arith)
 
 pub sized : (p : List ℕ) (u : ℕ) (k : Kind) (t : ℕ) → Whole p u k t → Sized u (shapeOf k t)
 sized p u k t w = record {
@@ -60,6 +68,7 @@ sized p u k t w = record {
   less = tc-most k t (w .tc);
   parts = refl;
   plain = plain-shape k t (w .tc);
+  low = low-shape k t (w .tc);
 }
 
 -- u octets are unread; n frames behind them with q octets of counts and the rate s are read

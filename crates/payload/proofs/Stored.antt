@@ -6,7 +6,7 @@ use native.Mathlib.Nat.{zero-add, sub-zero, suc-add, le-of-suc-le-suc}
 use native.Mathlib.Omega.{arith}
 use lib.ListN.{length, getD, set, take, drop, length-set, length-drop, length-take, length-append}
 use lib.Seq.{paste, getD-take, getD-drop, set-getD, set-append-left, length-take-le, take-append-le, take-take, drop-at}
-use Rattle.wire.specs.Frame.{bps2400}
+use Rattle.wire.specs.Frame.{bps2400, bps600}
 use Rattle.wire.specs.Walk.{shapeOf}
 use Rattle.wire.specs.declared.Shape.{Shape}
 use Rattle.payload.specs.Filling.{put, bodyAt, BodyFits, FrameFits}
@@ -51,6 +51,18 @@ module _ (p : List ℕ) (a : ℕ) (x : Shape) (r d : List ℕ) (i o : ℕ) (h : 
       let last : getD b 6 0 ≡ getD p (a + 6) 0 - 0 = getD-take 7 (drop a p) 6 0 (omega arith) ∙ getD-drop a p 6 0 ∙ sym (sub-zero (getD p (a + 6) 0)) in
       let same : bodyAt p a (shapeOf bps2400 0) ≡ b = ap (λ (v : ℕ). set b 6 v) (sym last) ∙ set-getD b 6 0 in
       rw q (er, ed ∙ rw same (ap (λ (k : ℕ). take o d ++ b ++ drop (o + k) d) (sym m)))
+
+-- a 600 bps frame, whose numbers y are known
+module _ {p : List ℕ} {a : ℕ} {x : Shape} {r i n o : ℕ} (h : FrameFits p a x r i n o) (is : x .kind ≡ 3) {y : Shape} (e : y ≡ shapeOf bps600 0) where
+  known : y ≡ x
+  known = e ∙ sym (h .low is)
+
+  pub low-fits : BodyFits p a y n o
+  low-fits = rw known (h .body)
+
+  pub low-put : (rs d : List ℕ) {rs′ d′ : List ℕ} → rs′ ≡ set (set rs (2 * i) 3) (2 * i + 1) 0 → d′ ≡ put d o (bodyAt p a y)
+      → (rs′ ≡ set (set rs (2 * i) (x .kind)) (2 * i + 1) (x .tc)) × (d′ ≡ put d o (bodyAt p a x))
+  low-put rs d er ed = (rw (h .low is) er, ed ∙ ap (λ (z : Shape). put d o (bodyAt p a z)) known)
 
 -- two stores behind what is left make it two shorter
 two-back : (k : ℕ) (xs rest : List ℕ) (a b : ℕ) → suc (suc k) ≤ length xs

@@ -3,7 +3,7 @@ use mathlib.Core.Path.{_≡_}
 use mathlib.Core.List.{List, _++_}
 use Prim.Native.Nat.{ℕ, _+_, _-_, _*_, _≤_, _<_}
 use lib.ListN.{length, getD, set, take, drop}
-use Rattle.wire.specs.Frame.{Frame, Legal, bps2400, octetsOf, bodiesOf}
+use Rattle.wire.specs.Frame.{Frame, Legal, bps2400, bps600, octetsOf, bodiesOf}
 use Rattle.wire.specs.Walk.{at, readOf, shapeOf}
 use Rattle.wire.specs.declared.Shape.{Shape}
 use Rattle.payload.specs.Reading.{extent}
@@ -31,12 +31,13 @@ pub record BodyFits (p : List ℕ) (a : ℕ) (x : Shape) (n o : ℕ) : Type 0 wh
   pub based : 1 ≤ x .size
   pub coded : x .code ≤ getD p (a + (x .size - 1)) 0
 
--- the same with its row, the i-th, for which r numbers have room. The numbers of a 2400 bps frame follow from its kind.
+-- the same with its row, the i-th, for which r numbers have room. The numbers of a 2400 or 600 bps frame follow from its kind.
 pub record FrameFits (p : List ℕ) (a : ℕ) (x : Shape) (r i n o : ℕ) : Type 0 where
   pub row : 2 * i + 2 ≤ r
   pub few : x .tc < 65536
   pub body : BodyFits p a x n o
   pub plain : x .kind ≡ 1 → x ≡ shapeOf bps2400 0
+  pub low : x .kind ≡ 3 → x ≡ shapeOf bps600 0
 
 -- the payload p holds n frames with m octets of bodies, for which r numbers and b octets have room
 pub record Known (p : List ℕ) (n m r b : ℕ) : Type 0 where

@@ -146,8 +146,8 @@ fn put_row(rows: &mut [u16], i: usize, kind: u16, tc: usize)
     rows[2 * i + 1] = tc as u16;
 }
 
-// The row and the body of the frame whose octets start at an index of the payload. A 2400 bps frame, the commonest, goes its own
-// way, with its numbers known.
+// The row and the body of the frame whose octets start at an index of the payload. Frames of 2400 bps, the commonest, and of
+// 600 bps go their own ways, with their numbers known.
 fn put_frame(
     payload: &[u8],
     start: usize,
@@ -164,6 +164,11 @@ fn put_frame(
     if shape.kind == wire::PLAIN_2400 {
         put_row(rows, i, wire::PLAIN_2400, 0);
         copy_octets(payload, start, 7, bodies, at);
+        return;
+    }
+    if shape.kind == wire::PLAIN_600 {
+        put_row(rows, i, wire::PLAIN_600, 0);
+        put_body(payload, start, wire::shape_600(), bodies, at);
         return;
     }
     put_row(rows, i, shape.kind, shape.tc);

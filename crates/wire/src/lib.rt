@@ -9,6 +9,9 @@ ghost use Rattle.wire.specs.Step.{plainShape, noiseShape, basedShape, fi
 // The kind of a 2400 bps frame without augmentation, the commonest.
 pub const PLAIN_2400: u16 = 1;
 
+// The kind of a 600 bps frame.
+pub const PLAIN_600: u16 = 3;
+
 // A frame's numbers: kind and TC as in a row, octets of its base, rate code bits, rate, octets on the wire and the
 // octets of its count among them.
 pub struct Shape {
@@ -79,10 +82,10 @@ fn shape_1200() -> Shape
     plain(2, 11, 128, 1200)
 }
 
-fn shape_600() -> Shape
+pub fn shape_600() -> Shape
     ensures { λ r. ⌜ r ≡ shapeOf bps600 0 ⌝ }
 {
-    plain(3, 7, 64, 600)
+    plain(PLAIN_600, 7, 64, 600)
 }
 
 fn shape_noise() -> Shape
