@@ -7,11 +7,11 @@ use borrow.Author.Tests.{lt-ltb, le-ltb, eq-eqb, ne-eqb}
 use Rattle.refusal.specs.declared.Refusal.{Refusal}
 use Rattle.wire.specs.Frame.{Frame, ticksOfRate, Octets, Legal, octetsOf, ticksOf}
 use Rattle.wire.specs.Walk.{readOf}
-use Rattle.payload.specs.Reading.{contentsOf}
-use Rattle.payload.specs.declared.Totals.{Totals}
-use Rattle.payload.specs.declared.Contents.{Contents}
-use Rattle.payload.specs.declared.Contents.the-variants as contents
-use Rattle.payload.proofs.Seen.{accepted, denied, reads-it, none-gives}
+use Rattle.payload.specs.Reading.{walkedOf}
+use Rattle.payload.specs.declared.Extent.{Extent}
+use Rattle.payload.specs.declared.Walked.{Walked}
+use Rattle.payload.specs.declared.Walked.the-variants as walked
+use Rattle.payload.proofs.Seen.{went, stopped, reads-it, none-gives}
 use Rattle.clock.specs.Time.{packetTicks, packetReport, PacketTime, ptimeOf, noPtime}
 use Rattle.clock.specs.declared.PacketTicks.{PacketTicks}
 use Rattle.clock.specs.declared.PacketTicks.the-variants as packet
@@ -46,13 +46,13 @@ seven-frames = refl
 
 -- ---- a packet's time
 
-module _ (p : List ℕ) (o : Octets p) {s : Contents} (is : s ≡ contentsOf (readOf p)) where
-  pub packet-whole : (t : Totals) → s ≡ contents.Whole t → PacketTime p (packet.Lasts (record { 0 = t .ticks }))
-  packet-whole t e =
-      let both = accepted p o is t e in
+module _ (p : List ℕ) (o : Octets p) {s : Walked} (is : s ≡ walkedOf (readOf p)) where
+  pub packet-whole : (x : Extent) → s ≡ walked.Whole x → PacketTime p (packet.Lasts (record { 0 = x .ticks }))
+  packet-whole x e =
+      let both = went p o is x e in
       let a = both .0 in
-      let d : t .ticks ≡ ticksOf (a .fs) = ap (λ (y : Totals). y .ticks) (both .1) in
-      let same : packet.Lasts (record { 0 = t .ticks }) ≡ packetTicks (readOf p) =
+      let d : x .ticks ≡ ticksOf (a .fs) = ap (λ (y : Extent). y .ticks) (both .1) in
+      let same : packet.Lasts (record { 0 = x .ticks }) ≡ packetTicks (readOf p) =
       ap (λ (n : ℕ). packet.Lasts (record { 0 = n })) d ∙ ap packetTicks (sym (a .reads)) in
       record {
         answer = same;
@@ -61,9 +61,9 @@ module _ (p : List ℕ) (o : Octets p) {s : Contents} (is : s ≡ contentsOf (re
         refused = λ z. absurd (z refl);
       }
 
-  pub packet-refused : (x : Refusal) → s ≡ contents.Refused x → PacketTime p (packet.Refused x)
+  pub packet-refused : (x : Refusal) → s ≡ walked.Refused x → PacketTime p (packet.Refused x)
   packet-refused x e =
-      let d = denied p o is x e in
+      let d = stopped p o is x e in
       record {
         answer = ap packetTicks (sym (d .reads));
         ticks = λ fs l g. absurd (none-gives p (d .reads) fs l g);

@@ -1,7 +1,7 @@
 // Time: ticks of 1/8000 second on the clock, milliseconds in settings. The two are types of their own and never mix.
 ghost use mathlib.Core.Path.{_≡_};
 ghost use Rattle.clock.specs.Time.{ptimeOf, PacketTime};
-use payload::Contents;
+use payload::Walked;
 use refusal::Refusal;
 
 // Ticks of 1/8000 second.
@@ -26,10 +26,10 @@ pub enum PacketMillis {
 pub fn packet_ticks(payload: &[u8]) -> PacketTicks
     ensures { λ r. ⌜ PacketTime (now (payload .entry)) r ⌝ }
 {
-    let seen = payload::survey(payload);
-    match seen {
-        Contents::Refused(refusal) => PacketTicks::Refused(refusal),
-        Contents::Whole(totals) => PacketTicks::Lasts(Ticks(totals.ticks)),
+    let walked = payload::walk(payload);
+    match walked {
+        Walked::Refused(refusal) => PacketTicks::Refused(refusal),
+        Walked::Whole(extent) => PacketTicks::Lasts(Ticks(extent.ticks)),
     }
 }
 

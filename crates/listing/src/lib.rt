@@ -10,7 +10,7 @@ ghost use Rattle.listing.specs.Entries.{wholeAt, payloadAt};
 ghost use Rattle.listing.specs.Carried.{Puts, Goes, Lists, Closes, Ready, positionOf, placeOf, endsAt, fresh};
 use leb128::Found;
 use leb128::Group;
-use payload::Contents;
+use payload::Walked;
 use refusal::Refusal;
 
 const MOST_OCTETS: usize = 1400;
@@ -143,17 +143,17 @@ fn put_line(out: &mut [u8], at: usize, n: u64, payload: &[u8]) -> usize
     requires { ⌜ at + 71 ≤ length (now out) ⌝ }
     ensures { λ r. ⌜ Puts (now (out .entry)) at (payloadLine n (now (payload .entry))) (now (out .exit)) r ⌝ }
 {
-    let contents = payload::survey(payload);
-    match contents {
-        Contents::Whole(totals) => put_row(
+    let walked = payload::walk(payload);
+    match walked {
+        Walked::Whole(extent) => put_row(
             out,
             at,
             n,
             b" ok ",
-            wide(totals.frames),
-            wide(totals.ticks),
+            wide(extent.frames),
+            wide(extent.ticks),
         ),
-        Contents::Refused(refusal) => put_row(
+        Walked::Refused(refusal) => put_row(
             out,
             at,
             n,

@@ -126,7 +126,7 @@ module _ (p r b : List ℕ) where
         demand = rw e at (demand o);
       })
 
-  -- ---- the code's branches: `s` is what the survey answered
+  -- ---- the code's branches: `s` is what the walk answered
 
   module _ (o : Octets p) {s : Walked} (is : s ≡ walkedOf (readOf p)) where
     pub read-refused : (x : Refusal) → s ≡ walked.Refused x → Reads p r b (reading.Refused x) r b

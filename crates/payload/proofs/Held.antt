@@ -1,20 +1,21 @@
 -- What the loop that walks a payload keeps: it is at a state of the walk, and holds the numbers of the frames read.
 use mathlib.Core.Path.{_≡_, refl, sym, ap, _∙_, subst}
-use mathlib.Core.Logic.{_⊎_, inl, inr}
 use mathlib.Core.Bool.{Bool, true, false, cond}
 use mathlib.Core.List.{List, [], _∷_}
 use Prim.Native.Nat.{ℕ, zero, suc, _+_, _-_, _*_, _≤_, _<_}
 use native.Mathlib.Omega.{arith}
-use lib.Dec.{ltb}
+use lib.Bits.{bitAnd}
+use lib.Dec.{eqb}
 use lib.ListN.{length, take, length-append, length-set}
 use borrow.Author.Tests.{lt-ltb, le-ltb}
-use Rattle.wire.specs.Frame.{Frame, Kind, bps2400, bps1200, bps600, noise, tsvcis, LegalTc, Octets, number, size, rate, countOf, wireLength, bodiesOf}
-use Rattle.wire.specs.Walk.{Ending, bad, got, lastFrame, beside, late, clash, seen, turn, next, frameAt, run, readOf, Walk, at, refused, shapeOf, foundOf}
+use Rattle.wire.specs.Frame.{Frame, Kind, bps2400, bps1200, bps600, noise, tsvcis, LegalTc, Octets, number, size, ticks, countOf, wireLength, bodiesOf, ticksOf}
+use Rattle.wire.specs.Walk.{Ending, bad, got, lastFrame, leaves, bars, turn, next, frameAt, run, readOf, Walk, at, refused, shapeOf, foundOf}
+use Rattle.wire.specs.Step.{left, barred, barredAs}
 use Rattle.wire.specs.declared.Shape.{Shape}
 use Rattle.wire.specs.declared.Found.{Found}
 use Rattle.wire.specs.declared.Found.the-variants.{Bad, Got}
-use Rattle.wire.proofs.Tables.{below-or, size-pos, tc-most}
-use Rattle.wire.proofs.Steps.{beside-some}
+use Rattle.wire.proofs.Tables.{size-pos, tc-most, ticks-most}
+use Rattle.wire.proofs.Barred.{beside-barred}
 use Rattle.wire.proofs.Complete.{next-at, stay}
 use Rattle.wire.proofs.Ended.{Whole, Wholes, last-says}
 use Rattle.wire.proofs.Sound.{run-refused, length-base}
@@ -24,15 +25,14 @@ use Rattle.payload.specs.Reading.{walkedOf, refuse}
 use Rattle.payload.specs.declared.Walked.the-variants as walked
 
 -- a turn's frame is whole
-pub beside-keeps : (p : List ℕ) (u n s : ℕ) (e : Ending) → Wholes p u e → Wholes p u (beside n s e)
-unfolding beside
-beside-keeps p u n s (bad x) w = tt
-beside-keeps p u n s (got k t) w = go (late k n) (clash (rate k) s)
+pub barred-keeps : (p : List ℕ) (u b : ℕ) (e : Ending) → Wholes p u e → Wholes p u (barred b e)
+unfolding barred
+barred-keeps p u b (bad x) w = tt
+barred-keeps p u b (got k t) w = go (eqb (bitAnd b (bars k)) 0)
   where
-    go : (a b : Bool) → Wholes p u (cond a (bad 6) (cond b (bad 8) (got k t)))
-    go true b = tt
-    go false true = tt
-    go false false = w
+    go : (a : Bool) → Wholes p u (cond a (got k t) (bad (barredAs k)))
+    go true = w
+    go false = tt
 
 -- what a turn that goes on knows of its frame's numbers
 pub record Sized (u : ℕ) (x : Shape) : Type 0 where
@@ -42,6 +42,7 @@ pub record Sized (u : ℕ) (x : Shape) : Type 0 where
   pub based : 1 ≤ x .size
   pub less : x .tc < 256
   pub parts : x .size + x .tc + x .count ≡ x .wire
+  pub lasts : x .ticks ≤ 720
   pub plain : x .kind ≡ 1 → x ≡ shapeOf bps2400 0
   pub low : x .kind ≡ 3 → x ≡ shapeOf bps600 0
 
@@ -67,20 +68,23 @@ sized p u k t w = record {
   based = omega (arith, size-pos k);
   less = tc-most k t (w .tc);
   parts = refl;
+  lasts = ticks-most k;
   plain = plain-shape k t (w .tc);
   low = low-shape k t (w .tc);
 }
 
--- u octets are unread; n frames behind them with q octets of counts and the rate s are read
-pub record Held (p : List ℕ) (u n q s : ℕ) : Type 0 where
+-- u octets are unread; n frames behind them are read, which last d ticks and leave the bit b; o octets are no part of their
+-- counts
+pub record Held (p : List ℕ) (u n o d b : ℕ) : Type 0 where
   pub later : List Frame
   pub fuel : ℕ
   pub enough : u ≤ fuel
   pub frames : n ≡ length later
-  pub octets : q + length (bodiesOf later) + u ≡ length p
-  pub rates : s ≡ seen later
+  pub octets : o ≡ length (bodiesOf later) + u
+  pub lasts : d ≡ ticksOf later
+  pub most : d ≤ 720 * n
+  pub bit : b ≡ left later
   pub few : n + u ≤ length p
-  pub first : n ≡ 0 → u ≡ length p
   pub short : length p ≤ 1400
   pub same : run fuel p (at u later) ≡ readOf p
 
@@ -88,7 +92,7 @@ pub too-long : (p : List ℕ) → 1400 < length p → walked.Refused (refuse 1 1
 unfolding readOf
 too-long p h = simp (lt-ltb 1400 (length p) h)
 
-pub held-start : (p : List ℕ) → length p ≤ 1400 → Held p (length p) 0 0 0
+pub held-start : (p : List ℕ) → length p ≤ 1400 → Held p (length p) 0 (length p) 0 0
 unfolding readOf
 held-start p h = record {
   later = [];
@@ -96,66 +100,60 @@ held-start p h = record {
   enough = omega arith;
   frames = refl;
   octets = omega arith;
-  rates = refl;
+  lasts = refl;
+  most = omega arith;
+  bit = refl;
   few = omega arith;
-  first = λ e. refl;
   short = h;
   same = simp (le-ltb 1400 (length p) h);
 }
 
-pub held-end : (p : List ℕ) (u n q s : ℕ) → Held p u n q s → u ≤ 0 → walked.Whole (record { frames = n; octets = length p - q; rate = s }) ≡ walkedOf (readOf p)
-held-end p u n q s h z =
+pub held-end : (p : List ℕ) (u n o d b : ℕ) → Held p u n o d b → u ≤ 0 → walked.Whole (record { frames = n; octets = o; ticks = d }) ≡ walkedOf (readOf p)
+held-end p u n o d b h z =
     let e : u ≡ 0 = omega arith in
-    let o : length p - q ≡ length (bodiesOf (h .later)) = omega (arith, h .octets) in
-    rw (← (h .same), e, stay (h .fuel) p (h .later), h .frames, o, h .rates)
+    let q : o ≡ length (bodiesOf (h .later)) = omega (arith, h .octets) in
+    rw (← (h .same), e, stay (h .fuel) p (h .later), h .frames, q, h .lasts)
 
-module _ (p : List ℕ) (u n q s : ℕ) (h : Held p u n q s) (pos : 1 ≤ u) where
+module _ (p : List ℕ) (u n o d b : ℕ) (h : Held p u n o d b) (pos : 1 ≤ u) where
   here : Ending
-  here = beside n s (lastFrame p u)
-
-  -- octets are read behind the unread ones if frames are
-  behind : (0 < n) ⊎ (n ≤ 0) → ltb 0 (length p - u) ≡ ltb 0 n
-  behind (inl l) = lt-ltb 0 (length p - u) (omega (arith, h .few)) ∙ sym (lt-ltb 0 n l)
-  behind (inr l) = le-ltb 0 (length p - u) (omega (arith, h .first (omega arith))) ∙ sym (le-ltb 0 n l)
+  here = barred b (lastFrame p u)
 
   -- what the code found is what the walk finds
-  there : {f : Found} → f ≡ foundOf (beside (length p - u) s (lastFrame (take u p) (length (take u p)))) → f ≡ foundOf here
+  there : {f : Found} → f ≡ foundOf (barred b (lastFrame (take u p) (length (take u p)))) → f ≡ foundOf here
   unfolding here
-  there b =
-      b
-      ∙ ap (λ (e : Ending). foundOf (beside (length p - u) s e)) (last-take p u (omega (arith, h .few)))
-      ∙ ap foundOf (beside-some (length p - u) n s (behind (below-or 0 n)) (lastFrame p u))
+  there e = e ∙ ap (λ (x : Ending). foundOf (barred b x)) (last-take p u (omega (arith, h .few)))
 
   turns : (e : Ending) → here ≡ e → next p (at u (h .later)) ≡ turn p u (h .later) e
   unfolding here
-  turns e i = next-at p u (h .later) pos ∙ ap (turn p u (h .later)) (rw (h .frames, h .rates) at i)
+  turns e i =
+      next-at p u (h .later) pos
+      ∙ ap (turn p u (h .later)) (beside-barred (h .later) (lastFrame p u) ∙ ap (λ (x : ℕ). barred x (lastFrame p u)) (sym (h .bit)) ∙ i)
 
-  pub held-bad : (x : ℕ) {f : Found} → f ≡ Bad x → f ≡ foundOf (beside (length p - u) s (lastFrame (take u p) (length (take u p))))
-      → walked.Refused (refuse x u) ≡ walkedOf (readOf p)
-  held-bad x a b = go (h .fuel) (h .enough) (h .same)
+  pub held-bad : (x : ℕ) {f : Found} → f ≡ Bad x → f ≡ foundOf (barred b (lastFrame (take u p) (length (take u p)))) → walked.Refused (refuse x u) ≡ walkedOf (readOf p)
+  held-bad x a e = go (h .fuel) (h .enough) (h .same)
     where
       go : (f : ℕ) → u ≤ f → run f p (at u (h .later)) ≡ readOf p → walked.Refused (refuse x u) ≡ walkedOf (readOf p)
-      go zero l e = absurd (omega arith)
-      go (suc f) l e = rw (← e, turns (bad x) (bad-is here x a (there b)), run-refused f p x u (h .later))
+      go zero l q = absurd (omega arith)
+      go (suc f) l q = rw (← q, turns (bad x) (bad-is here x a (there e)), run-refused f p x u (h .later))
 
-  module _ (o : Octets p) (x : Shape) {f : Found} (a : f ≡ Got x) (b : f ≡ foundOf (beside (length p - u) s (lastFrame (take u p) (length (take u p))))) where
+  module _ (os : Octets p) (x : Shape) {f : Found} (a : f ≡ Got x) (e : f ≡ foundOf (barred b (lastFrame (take u p) (length (take u p))))) where
     sh : Shaped here x
-    sh = shaped here x a (there b)
+    sh = shaped here x a (there e)
 
     whole : Whole p u (sh .kind) (sh .tc)
     unfolding here
-    whole = rw (sh .ends) at (beside-keeps p u n s (lastFrame p u) (last-says p u o pos))
+    whole = rw (sh .ends) at (barred-keeps p u b (lastFrame p u) (last-says p u os pos))
 
     pub held-sized : Sized u x
     held-sized = rw (sh .is) (sized p u (sh .kind) (sh .tc) whole)
 
-    next-held : (k : Kind) (t : ℕ) → here ≡ got k t → Whole p u k t → Held p (u - wireLength k t) (n + 1) (q + length (countOf k t)) (rate k)
-    next-held k t e w = go (h .fuel) (h .enough) (h .same)
+    next-held : (k : Kind) (t : ℕ) → here ≡ got k t → Whole p u k t → Held p (u - wireLength k t) (n + 1) (o - length (countOf k t)) (d + ticks k) (leaves k)
+    next-held k t i w = go (h .fuel) (h .enough) (h .same)
       where
         body : length (frameAt p (u - wireLength k t) k t .body) ≡ size k + t
-        body = simp length-set (length-base p u k t o (omega (arith, h .few)) w)
+        body = simp length-set (length-base p u k t os (omega (arith, h .few)) w)
 
-        go : (f : ℕ) → u ≤ f → run f p (at u (h .later)) ≡ readOf p → Held p (u - wireLength k t) (n + 1) (q + length (countOf k t)) (rate k)
+        go : (f : ℕ) → u ≤ f → run f p (at u (h .later)) ≡ readOf p → Held p (u - wireLength k t) (n + 1) (o - length (countOf k t)) (d + ticks k) (leaves k)
         go zero l r = absurd (omega arith)
         go (suc f) l r = record {
           later = frameAt p (u - wireLength k t) k t ∷ h .later;
@@ -163,12 +161,13 @@ module _ (p : List ℕ) (u n q s : ℕ) (h : Held p u n q s) (pos : 1 ≤ u) whe
           enough = omega (arith, size-pos k);
           frames = omega (arith, h .frames);
           octets = simp length-append (omega (arith, h .octets, body, w .room));
-          rates = refl;
+          lasts = omega (arith, h .lasts);
+          most = omega (arith, h .most, ticks-most k);
+          bit = refl;
           few = omega (arith, h .few, size-pos k, w .room);
-          first = λ z. absurd (omega arith);
           short = h .short;
-          same = ap (run f p) (sym (turns (got k t) e)) ∙ r;
+          same = ap (run f p) (sym (turns (got k t) i)) ∙ r;
         }
 
-    pub held-got : Held p (u - x .wire) (n + 1) (q + x .count) (x .rate)
+    pub held-got : Held p (u - x .wire) (n + 1) (o - x .count) (d + x .ticks) (x .leaves)
     held-got = rw (sh .is) (next-held (sh .kind) (sh .tc) (sh .ends) whole)

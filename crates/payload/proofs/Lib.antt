@@ -5,4 +5,3 @@ pub mod Stored
 pub mod Filled
 pub mod Demanded
 pub mod Bench
-pub mod Timing

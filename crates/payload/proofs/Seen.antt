@@ -1,4 +1,4 @@
--- What the walk's and the survey's answers say of the payload, by cases: for all who ask them.
+-- What the walk's answer says of the payload, by cases: for all who ask it.
 use mathlib.Core.Path.{_≡_, refl, sym, ap, _∙_, subst}
 use mathlib.Core.List.{List}
 use Prim.Native.Nat.{ℕ, zero, suc}
@@ -9,13 +9,10 @@ use Rattle.wire.specs.Walk.{Walk, at, refused, readOf}
 use Rattle.wire.proofs.Complete.{complete}
 use Rattle.wire.proofs.Sound.{sound, Ended, read-ends}
 use Rattle.wire.proofs.Ranges.{InRange, in-range}
-use Rattle.payload.specs.Reading.{refuse, extent, walkedOf, totals, contentsOf, walkReport, walkNumbers, Walks, surveyReport, surveyNumbers, Surveys}
+use Rattle.payload.specs.Reading.{refuse, extent, walkedOf, walkReport, walkNumbers, Walks}
 use Rattle.payload.specs.declared.Extent.{Extent}
 use Rattle.payload.specs.declared.Walked.{Walked}
 use Rattle.payload.specs.declared.Walked.the-variants as walked
-use Rattle.payload.specs.declared.Totals.{Totals}
-use Rattle.payload.specs.declared.Contents.{Contents}
-use Rattle.payload.specs.declared.Contents.the-variants as contents
 
 -- a legal sequence that gives the payload is what the walk reads
 pub reads-it : (p : List ℕ) (fs : List Frame) → Legal fs → octetsOf fs ≡ p → readOf p ≡ at 0 fs
@@ -71,35 +68,11 @@ module _ (p : List ℕ) (o : Octets p) {s : Walked} (is : s ≡ walkedOf (readOf
       go (over a) q = absurd (let z : _≡_ {A = ℕ} 0 1 = cc in omega arith)
       go (not y d) q = let f : y ≡ x = cc in subst (Denied p) f d
 
--- ---- the survey's answer
-
-module _ (p : List ℕ) (o : Octets p) {s : Contents} (is : s ≡ contentsOf (readOf p)) where
-  pub accepted : (t : Totals) → s ≡ contents.Whole t → (a : Accepted p) × (t ≡ totals (a .fs))
-  accepted t e = go (view p o) (sym is ∙ e)
-    where
-      go : {w : Walk} → View p w → contentsOf w ≡ contents.Whole t → (a : Accepted p) × (t ≡ totals (a .fs))
-      go (over a) q = let f : totals (a .fs) ≡ t = cc in (a, sym f)
-      go (not y d) q = absurd (let z : _≡_ {A = ℕ} 0 1 = cc in omega arith)
-
-  pub denied : (x : Refusal) → s ≡ contents.Refused x → Denied p x
-  denied x e = go (view p o) (sym is ∙ e)
-    where
-      go : {w : Walk} → View p w → contentsOf w ≡ contents.Refused x → Denied p x
-      go (over a) q = absurd (let z : _≡_ {A = ℕ} 0 1 = cc in omega arith)
-      go (not y d) q = let f : y ≡ x = cc in subst (Denied p) f d
-
--- ---- what the two promise, from their answers
+-- ---- what it promises, from its answer
 
 pub walks : (p : List ℕ) {r : Walked} → r ≡ walkedOf (readOf p) → Walks p r
 walks p e = record { answer = e; numbers = ap walkReport e ∙ go (readOf p) }
   where
     go : (w : Walk) → walkReport (walkedOf w) ≡ walkNumbers w
-    go (at u fs) = refl
-    go (refused n place later) = refl
-
-pub surveys : (p : List ℕ) {r : Contents} → r ≡ contentsOf (readOf p) → Surveys p r
-surveys p e = record { answer = e; numbers = ap surveyReport e ∙ go (readOf p) }
-  where
-    go : (w : Walk) → surveyReport (contentsOf w) ≡ surveyNumbers w
     go (at u fs) = refl
     go (refused n place later) = refl

@@ -3,18 +3,9 @@ use mathlib.Core.Path.{_≡_}
 use mathlib.Core.List.{List, _++_}
 use Prim.Native.Nat.{ℕ, _+_, _-_, _*_, _≤_, _<_}
 use lib.ListN.{length, getD, set, take, drop}
-use Rattle.wire.specs.Frame.{Frame, Legal, bps2400, bps600, octetsOf, bodiesOf}
+use Rattle.wire.specs.Frame.{Frame, bps2400, bps600, bodiesOf}
 use Rattle.wire.specs.Walk.{at, readOf, shapeOf}
 use Rattle.wire.specs.declared.Shape.{Shape}
-use Rattle.payload.specs.Reading.{extent}
-use Rattle.payload.specs.declared.Extent.{Extent}
-
--- the walk went over the payload p and came to x
-pub record Went (p : List ℕ) (x : Extent) : Type 0 where
-  pub fs : List Frame
-  pub legal : Legal fs
-  pub gives : octetsOf fs ≡ p
-  pub is : x ≡ extent fs
 
 -- xs, with ys from the index a on
 abbrev pub put : List ℕ → ℕ → List ℕ → List ℕ

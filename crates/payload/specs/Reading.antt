@@ -8,13 +8,10 @@ use lib.ListN.{length, drop}
 use Rattle.refusal.specs.Numbers.{shortList, shortBuffer}
 use Rattle.refusal.specs.declared.Refusal.{Refusal}
 use Rattle.wire.specs.Frame.{Frame, rowsOf, bodiesOf, ticksOf}
-use Rattle.wire.specs.Walk.{Walk, at, refused, readOf, seen}
+use Rattle.wire.specs.Walk.{Walk, at, refused, readOf}
 use Rattle.payload.specs.declared.Extent.{Extent}
 use Rattle.payload.specs.declared.Walked.{Walked}
 use Rattle.payload.specs.declared.Walked.the-variants as walked
-use Rattle.payload.specs.declared.Totals.{Totals}
-use Rattle.payload.specs.declared.Contents.{Contents}
-use Rattle.payload.specs.declared.Contents.the-variants as contents
 use Rattle.payload.specs.declared.Reading.{Reading}
 use Rattle.payload.specs.declared.Reading.the-variants as reading
 
@@ -22,28 +19,14 @@ use Rattle.payload.specs.declared.Reading.the-variants as reading
 abbrev pub refuse : ℕ → ℕ → Refusal
 refuse n place = record { number = n; place = place }
 
--- what the walk comes to: frames, body octets, and the coder frames' rate
+-- what the walk comes to: frames, body octets, ticks
 abbrev pub extent : List Frame → Extent
-extent fs = record { frames = length fs; octets = length (bodiesOf fs); rate = seen fs }
+extent fs = record { frames = length fs; octets = length (bodiesOf fs); ticks = ticksOf fs }
 
 -- what a walk comes to, in numbers
 abbrev pub walkedOf : Walk → Walked
 walkedOf (at u fs) = walked.Whole (extent fs)
 walkedOf (refused n place later) = walked.Refused (refuse n place)
-
--- the ticks of what a walk read
-abbrev pub ticksIn : Walk → ℕ
-ticksIn (at u fs) = ticksOf fs
-ticksIn (refused n place later) = 0
-
--- what a sequence holds in all: frames, body octets, ticks
-abbrev pub totals : List Frame → Totals
-totals fs = record { frames = length fs; octets = length (bodiesOf fs); ticks = ticksOf fs }
-
--- the same of a walk
-abbrev pub contentsOf : Walk → Contents
-contentsOf (at u fs) = contents.Whole (totals fs)
-contentsOf (refused n place later) = contents.Refused (refuse n place)
 
 -- an answer, and what the lent rows and bodies hold afterwards
 pub record Outcome : Type 0 where
@@ -87,48 +70,25 @@ abbrev pub reportOf : Reading → Report
 reportOf (reading.Read n m) = record { number = 0; place = 0; rows = n; octets = m }
 reportOf (reading.Refused x) = record { number = x .number; place = x .place; rows = 0; octets = 0 }
 
--- document 01's numbers for what the walk comes to; 0 for all values of a refusal
+-- document 01's numbers for what the walk comes to; 0 for all values of a refusal: "its refusal and 0 ticks"
 pub record WalkReport : Type 0 where
-  pub number : ℕ
-  pub place : ℕ
-  pub frames : ℕ
-  pub octets : ℕ
-  pub rate : ℕ
-
--- the numbers of each case of the walk's answer
-abbrev pub walkReport : Walked → WalkReport
-walkReport (walked.Whole x) = record { number = 0; place = 0; frames = x .frames; octets = x .octets; rate = x .rate }
-walkReport (walked.Refused x) = record { number = x .number; place = x .place; frames = 0; octets = 0; rate = 0 }
-
--- the numbers of a walk
-abbrev pub walkNumbers : Walk → WalkReport
-walkNumbers (at u fs) = record { number = 0; place = 0; frames = length fs; octets = length (bodiesOf fs); rate = seen fs }
-walkNumbers (refused n place later) = record { number = n; place = place; frames = 0; octets = 0; rate = 0 }
-
--- what `walk` promises of a payload p
-pub record Walks (p : List ℕ) (r : Walked) : Type 0 where
-  pub answer : r ≡ walkedOf (readOf p)
-  pub numbers : walkReport r ≡ walkNumbers (readOf p)
-
--- document 01's numbers for what a payload holds: "A refused payload gives its refusal and 0 ticks"
-pub record SurveyReport : Type 0 where
   pub number : ℕ
   pub place : ℕ
   pub frames : ℕ
   pub octets : ℕ
   pub ticks : ℕ
 
--- the numbers of each case of the survey's answer
-abbrev pub surveyReport : Contents → SurveyReport
-surveyReport (contents.Whole x) = record { number = 0; place = 0; frames = x .frames; octets = x .octets; ticks = x .ticks }
-surveyReport (contents.Refused x) = record { number = x .number; place = x .place; frames = 0; octets = 0; ticks = 0 }
+-- the numbers of each case of the walk's answer
+abbrev pub walkReport : Walked → WalkReport
+walkReport (walked.Whole x) = record { number = 0; place = 0; frames = x .frames; octets = x .octets; ticks = x .ticks }
+walkReport (walked.Refused x) = record { number = x .number; place = x .place; frames = 0; octets = 0; ticks = 0 }
 
--- the numbers of a walk, ticks among them
-abbrev pub surveyNumbers : Walk → SurveyReport
-surveyNumbers (at u fs) = record { number = 0; place = 0; frames = length fs; octets = length (bodiesOf fs); ticks = ticksOf fs }
-surveyNumbers (refused n place later) = record { number = n; place = place; frames = 0; octets = 0; ticks = 0 }
+-- the numbers of a walk
+abbrev pub walkNumbers : Walk → WalkReport
+walkNumbers (at u fs) = record { number = 0; place = 0; frames = length fs; octets = length (bodiesOf fs); ticks = ticksOf fs }
+walkNumbers (refused n place later) = record { number = n; place = place; frames = 0; octets = 0; ticks = 0 }
 
--- what `survey` promises of a payload p
-pub record Surveys (p : List ℕ) (r : Contents) : Type 0 where
-  pub answer : r ≡ contentsOf (readOf p)
-  pub numbers : surveyReport r ≡ surveyNumbers (readOf p)
+-- what `walk` promises of a payload p
+pub record Walks (p : List ℕ) (r : Walked) : Type 0 where
+  pub answer : r ≡ walkedOf (readOf p)
+  pub numbers : walkReport r ≡ walkNumbers (readOf p)

@@ -3,9 +3,8 @@ ghost use mathlib.Core.Path.{_≡_};
 ghost use Prim.Native.Nat.{_+_, _*_, _≤_, _<_};
 ghost use lib.ListN.{length, set, drop};
 ghost use lib.Seq.{paste};
-ghost use Rattle.wire.specs.Walk.{readOf};
-ghost use Rattle.payload.specs.Reading.{Walks, Surveys, ticksIn, readInto};
-ghost use Rattle.payload.specs.Filling.{Known, Went, BodyFits, FrameFits, put, bodyAt};
+ghost use Rattle.payload.specs.Reading.{Walks, readInto};
+ghost use Rattle.payload.specs.Filling.{Known, BodyFits, FrameFits, put, bodyAt};
 ghost use Rattle.payload.specs.Promise.{Reads};
 use refusal::Refusal;
 use wire::Found;
@@ -13,29 +12,16 @@ use wire::Shape;
 
 const MOST_OCTETS: usize = 1400;
 
-// What the walk over a payload comes to: frames, octets of their bodies, and the coder frames' rate (0: there is none).
+// What the walk over a payload comes to: frames, octets of their bodies, and ticks.
 pub struct Extent {
-    pub frames: usize,
-    pub octets: usize,
-    pub rate: u32,
-}
-
-// An empty payload is whole and holds no frames; a refused one is the other case.
-pub enum Walked {
-    Whole(Extent),
-    Refused(Refusal),
-}
-
-// What a payload holds in all.
-pub struct Totals {
     pub frames: usize,
     pub octets: usize,
     pub ticks: usize,
 }
 
-// The same with ticks.
-pub enum Contents {
-    Whole(Totals),
+// An empty payload is whole and holds no frames; a refused one is the other case.
+pub enum Walked {
+    Whole(Extent),
     Refused(Refusal),
 }
 
@@ -46,7 +32,7 @@ pub enum Reading {
 }
 
 // The walk, from the payload's end to its front: all that is asked of a payload is asked here first. Octets that are no
-// part of a count are octets of a body, so only those of the counts are added up.
+// part of a count are octets of a body.
 pub fn walk(payload: &[u8]) -> Walked
     ensures { λ r. ⌜ Walks (now (payload .entry)) r ⌝ }
 {
@@ -58,10 +44,11 @@ pub fn walk(payload: &[u8]) -> Walked
     }
     let mut unread = payload.len();
     let mut frames: usize = 0;
-    let mut counts: usize = 0;
-    let mut rate: u32 = 0;
+    let mut octets = payload.len();
+    let mut ticks: usize = 0;
+    let mut behind: u8 = 0;
     while 0 < unread {
-        let found = wire::step(&payload[..unread], payload.len() - unread, rate);
+        let found = wire::step(&payload[..unread], behind);
         match found {
             Found::Bad(number) => {
                 return Walked::Refused(Refusal {
@@ -72,50 +59,17 @@ pub fn walk(payload: &[u8]) -> Walked
             Found::Got(shape) => {
                 unread -= shape.wire;
                 frames += 1;
-                counts += shape.count;
-                rate = shape.rate;
+                octets -= shape.count;
+                ticks += shape.ticks;
+                behind = shape.leaves;
             }
         }
     }
     Walked::Whole(Extent {
         frames,
-        octets: payload.len() - counts,
-        rate,
+        octets,
+        ticks,
     })
-}
-
-// The ticks of a payload that the walk went over: those of each coder frame, of which comfort noise is none.
-fn ticks_in(payload: &[u8], extent: Extent) -> usize
-    requires { ⌜ Went (now payload) extent ⌝ }
-    ensures { λ r. ⌜ r ≡ ticksIn (readOf (now (payload .entry))) ⌝ }
-{
-    let n = payload.len();
-    if n == 0 {
-        return 0;
-    }
-    let mut coders = extent.frames;
-    let x = payload[n - 1];
-    if 159 < x {
-        if x < 192 {
-            coders -= 1;
-        }
-    }
-    wire::ticks_of_rate(extent.rate) * coders
-}
-
-// What the payload holds, its ticks with it.
-pub fn survey(payload: &[u8]) -> Contents
-    ensures { λ r. ⌜ Surveys (now (payload .entry)) r ⌝ }
-{
-    let walked = walk(payload);
-    match walked {
-        Walked::Refused(refusal) => Contents::Refused(refusal),
-        Walked::Whole(extent) => Contents::Whole(Totals {
-            frames: extent.frames,
-            octets: extent.octets,
-            ticks: ticks_in(payload, extent),
-        }),
-    }
 }
 
 // Copies len octets of src, from an index on, into dst at an index.

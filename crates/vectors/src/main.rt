@@ -8,7 +8,7 @@
 //
 // A line that starts with # is only written; any other, and a case that asks for more than there is here, is malformed.
 // `read` lends that many numbers, each 99 before the call, and octets, each ee, and writes the answer and all that was lent,
-// so that whatever a call leaves unchanged shows; then frames, body octets and ticks by `survey`, and ticks by
+// so that whatever a call leaves unchanged shows; then frames, body octets and ticks by `walk`, and ticks by
 // `packet_ticks`. `view` writes the row's augmentation and its frame, with a stand-in of that many octets, each 5a. `time`
 // writes the ptime in milliseconds. `write` lends that many octets, each ee, and writes the answer, what was lent and the
 // ten octets behind it.
@@ -22,8 +22,8 @@ use clock::PacketMillis;
 use clock::PacketTicks;
 use libc::STDIN_FILENO;
 use libc::STDOUT_FILENO;
-use payload::Contents;
 use payload::Reading;
+use payload::Walked;
 use refusal::Refusal;
 use writer::Writing;
 
@@ -346,14 +346,14 @@ fn malformed() {
     say(b" malformed");
 }
 
-fn say_survey(payload: &[u8]) {
-    let contents = payload::survey(payload);
-    match contents {
-        Contents::Refused(r) => say_refused(r),
-        Contents::Whole(totals) => {
-            say_number(totals.frames);
-            say_number(totals.octets);
-            say_number(totals.ticks);
+fn say_walk(payload: &[u8]) {
+    let walked = payload::walk(payload);
+    match walked {
+        Walked::Refused(r) => say_refused(r),
+        Walked::Whole(extent) => {
+            say_number(extent.frames);
+            say_number(extent.octets);
+            say_number(extent.ticks);
         }
     }
 }
@@ -394,7 +394,7 @@ fn read_case(payload: &[u8], numbers: usize, octets: usize) {
     let mut bodies = [0xeeu8; 1410];
     say_reading(payload, &mut rows[..numbers], &mut bodies[..octets]);
     say(b"; holds");
-    say_survey(payload);
+    say_walk(payload);
     say(b"; lasts");
     say_ticks(payload);
 }

@@ -15,14 +15,13 @@ use Rattle.wire.proofs.Tables.{below-or}
 use Rattle.wire.proofs.Steps.{ending-none}
 use Rattle.wire.proofs.Prefix.{ending-take}
 use Rattle.wire.proofs.Complete.{stay}
-use Rattle.wire.proofs.Ended.{Whole, Wholes, last-says}
+use Rattle.wire.proofs.Ended.{Whole, Wholes, last-says, beside-keeps}
 use Rattle.wire.proofs.Sound.{run-refused}
 use Rattle.payload.specs.Reading.{walkedOf}
 use Rattle.payload.specs.declared.Extent.{Extent}
 use Rattle.payload.specs.declared.Walked.{Walked}
 use Rattle.payload.specs.declared.Walked.the-variants as walked
 use Rattle.payload.proofs.Seen.{differ, View, over, not, view, went, stopped}
-use Rattle.payload.proofs.Held.{beside-keeps}
 use Rattle.payload.proofs.Onward.{read-run, grows, Onward, onward, onward-bad, onward-shape, onward-whole}
 use Rattle.views.specs.View.{sizesOf, spot, placeOf, ends, endOf, rowBefore, Holds}
 use Rattle.views.specs.declared.Place.the-variants.{At, Missing}

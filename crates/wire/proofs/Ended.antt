@@ -1,14 +1,14 @@
 -- What the walk's step says of the octets that it looked at.
 use mathlib.Core.Path.{_≡_, refl, sym, ap, _∙_}
 use mathlib.Core.Logic.{_⊎_, inl, inr}
-use mathlib.Core.Bool.{Bool, true, false}
+use mathlib.Core.Bool.{Bool, true, false, cond}
 use mathlib.Core.List.{List, [], _∷_}
 use Prim.Native.Nat.{ℕ, zero, suc, _+_, _-_, _≤_, _<_}
 use native.Mathlib.Omega.{arith}
 use lib.ListN.{length, getD}
 use borrow.Author.Tests.{lt-ltb, le-ltb, ltb-false}
-use Rattle.wire.specs.Frame.{Kind, bps2400, bps1200, bps600, noise, tsvcis, LegalTc, Octets, size, top, code, countOf, wireLength}
-use Rattle.wire.specs.Walk.{Ending, bad, got, named, counted, ending, foreign, whole, lastFrame}
+use Rattle.wire.specs.Frame.{Kind, bps2400, bps1200, bps600, noise, tsvcis, LegalTc, Octets, size, top, code, rate, countOf, wireLength}
+use Rattle.wire.specs.Walk.{Ending, bad, got, named, counted, ending, foreign, whole, lastFrame, late, clash, beside}
 use Rattle.wire.proofs.Tables.{below-or, Counts, short, long, counts, count-none, count-short, count-long, size-pos, wire-none}
 use Rattle.wire.proofs.Steps.{named-2400, named-600, named-1200, named-foreign, named-noise, named-short, counted-zero, counted-short, counted-long, ending-one, ending-two, ending-alone}
 
@@ -158,3 +158,14 @@ whole-says p u (got k t) c = go (below-or u (wireLength k t)) (foreign k (getD p
 pub last-says : (p : List ℕ) (u : ℕ) → Octets p → 1 ≤ u → Wholes p u (lastFrame p u)
 unfolding lastFrame
 last-says p u o h = whole-says p u (ending p u) (ending-claims p u o h)
+
+-- a frame that the walk reads is whole
+pub beside-keeps : (p : List ℕ) (u n s : ℕ) (e : Ending) → Wholes p u e → Wholes p u (beside n s e)
+unfolding beside
+beside-keeps p u n s (bad x) w = tt
+beside-keeps p u n s (got k t) w = go (late k n) (clash (rate k) s)
+  where
+    go : (a b : Bool) → Wholes p u (cond a (bad 6) (cond b (bad 8) (got k t)))
+    go true b = tt
+    go false true = tt
+    go false false = w

@@ -6,6 +6,7 @@ pub mod Complete
 pub mod Ended
 pub mod Sound
 pub mod Shapes
+pub mod Barred
 pub mod Prefix
 pub mod Ranges
 pub mod Rates

@@ -8,28 +8,14 @@ use native.Mathlib.Omega.{arith}
 use lib.Dec.{ltb}
 use lib.ListN.{getD, length}
 use borrow.Author.Tests.{lt-ltb, le-ltb}
-use Rattle.wire.specs.Frame.{Kind, bps2400, bps1200, bps600, noise, tsvcis, size, rate, wireLength}
-use Rattle.wire.specs.Walk.{Ending, bad, got, named, counted, ending, foreign, whole, lastFrame, clash, late, beside, shapeOf, foundOf}
-use Rattle.wire.specs.Step.{noiseShape, basedShape, fitShape, fitted, ByKind, CountEnd}
+use Rattle.wire.specs.Frame.{Kind, bps2400, bps1200, bps600, noise, tsvcis, size, wireLength}
+use Rattle.wire.specs.Walk.{Ending, bad, got, named, counted, ending, foreign, whole, lastFrame, shapeOf, foundOf}
+use Rattle.wire.specs.Step.{basedShape, fitShape, fitted, ByKind, CountEnd}
 use Rattle.wire.specs.declared.Shape.{Shape}
 use Rattle.wire.specs.declared.Found.{Found}
 use Rattle.wire.specs.declared.Found.the-variants.{Bad, Got}
 use Rattle.wire.proofs.Tables.{below-or, Counts, short, long, counts}
-use Rattle.wire.proofs.Steps.{clash-left, clash-none, clash-same, clash-two, named-1200, named-foreign, named-short, counted-zero, counted-short, counted-long, ending-one, ending-alone, ending-two}
-
--- ---- comfort noise
-
-pub noise-cut : (u later : ℕ) → u < wireLength noise 0 → Bad 2 ≡ noiseShape u later
-unfolding noiseShape
-noise-cut u later h = simp (lt-ltb u (wireLength noise 0) h)
-
-pub noise-late : (u later : ℕ) → wireLength noise 0 ≤ u → 0 < later → Bad 6 ≡ noiseShape u later
-unfolding noiseShape
-noise-late u later h l = simp (le-ltb u (wireLength noise 0) h, lt-ltb 0 later l)
-
-pub noise-last : (u later : ℕ) → wireLength noise 0 ≤ u → later ≤ 0 → Got (shapeOf noise 0) ≡ noiseShape u later
-unfolding noiseShape
-noise-last u later h l = simp (le-ltb u (wireLength noise 0) h, le-ltb 0 later l)
+use Rattle.wire.proofs.Steps.{named-1200, named-foreign, named-noise, named-short, counted-zero, counted-short, counted-long, ending-one, ending-alone, ending-two}
 
 -- ---- augmentation
 
@@ -46,28 +32,16 @@ module _ (p : List ℕ) (u : ℕ) (x : Shape) where
   unfolding basedShape
   based-got h b = simp (le-ltb u (x .wire) h, le-ltb 63 (getD p (u - x .wire + 6) 0) b)
 
--- ---- length and rate
+-- ---- length
 
-module _ (u s : ℕ) (x : Shape) where
-  pub fit-cut : u < x .wire → Bad 2 ≡ fitShape u s x
+module _ (u : ℕ) (x : Shape) where
+  pub fit-cut : u < x .wire → Bad 2 ≡ fitShape u x
   unfolding fitShape
   fit-cut h = simp (lt-ltb u (x .wire) h)
 
-  pub fit-same : x .wire ≤ u → s ≡ x .rate → Got x ≡ fitShape u s x
+  pub fit-got : x .wire ≤ u → Got x ≡ fitShape u x
   unfolding fitShape
-  fit-same h e = simp (le-ltb u (x .wire) h, clash-same (x .rate) s (sym e))
-
-  pub fit-first : x .wire ≤ u → s ≡ 0 → Got x ≡ fitShape u s x
-  unfolding fitShape
-  fit-first h e = simp (le-ltb u (x .wire) h, clash-none (x .rate) s e)
-
-  pub fit-noise : x .wire ≤ u → x .rate ≡ 0 → Got x ≡ fitShape u s x
-  unfolding fitShape
-  fit-noise h e = simp (le-ltb u (x .wire) h, clash-left (x .rate) s e)
-
-  pub fit-clash : x .wire ≤ u → (s ≡ x .rate → ⊥) → (s ≡ 0 → ⊥) → (x .rate ≡ 0 → ⊥) → Bad 8 ≡ fitShape u s x
-  unfolding fitShape
-  fit-clash h d z n = simp (le-ltb u (x .wire) h, clash-two (x .rate) s n z (λ e. d (sym e)))
+  fit-got h = simp (le-ltb u (x .wire) h)
 
 -- ---- what the code found, as the walk has it
 
@@ -86,79 +60,55 @@ pub bad-is : (e : Ending) (n : ℕ) {f : Found} → f ≡ Bad n → f ≡ foundO
 bad-is (bad m) n a b = let q : m ≡ n = cc in ap bad q
 bad-is (got k t) n a b = absurd (let z : _≡_ {A = ℕ} 0 1 = cc in omega arith)
 
--- ---- the step, kind by kind
+-- ---- the frame, kind by kind
 
 choose : (k : Kind) (t n : ℕ) (b : Bool) → cond b (Bad n) (Got (shapeOf k t)) ≡ foundOf (cond b (bad n) (got k t))
 choose k t n true = refl
 choose k t n false = refl
 
 module _ (p : List ℕ) (u : ℕ) where
-  -- a coder frame that u octets hold whole
-  fit-coder : (later s : ℕ) (k : Kind) (t : ℕ) → late k later ≡ false → ltb u (wireLength k t) ≡ false → fitShape u s (shapeOf k t) ≡ foundOf (beside later s (got k t))
-  unfolding fitShape beside
-  fit-coder later s k t e h = simp (e, h) (choose k t 8 (clash (rate k) s))
+  -- a frame without augmentation
+  plain-whole : (k : Kind) → ((x : ℕ) → foreign k x ≡ false) → fitShape u (shapeOf k 0) ≡ foundOf (whole p u (got k 0))
+  unfolding whole fitShape
+  plain-whole k f = simp (f (getD p (u - wireLength k 0 + (size k - 1)) 0)) (choose k 0 2 (ltb u (wireLength k 0)))
 
-  -- a coder frame without augmentation
-  plain-fits : (later s : ℕ) (k : Kind) → late k later ≡ false → ((x : ℕ) → foreign k x ≡ false) → (b : Bool) → ltb u (wireLength k 0) ≡ b
-      → fitShape u s (shapeOf k 0) ≡ foundOf (beside later s (whole p u (got k 0)))
-  unfolding whole beside fitShape
-  plain-fits later s k e f true h = simp h
-  plain-fits later s k e f false h = fit-coder later s k 0 e h ∙ simp (h, f (getD p (u - wireLength k 0 + (size k - 1)) 0))
-
-  -- a frame that was looked at whole, put to its rate
-  whole-fits : (later s : ℕ) (e : Ending) → ((k : Kind) (t : ℕ) → e ≡ got k t → late k later ≡ false)
-      → fitted u s (foundOf (whole p u e)) ≡ foundOf (beside later s (whole p u e))
-  unfolding whole beside
-  whole-fits later s (bad n) h = refl
-  whole-fits later s (got k t) h = go (ltb u (wireLength k t)) (foreign k (getD p (u - wireLength k t + (size k - 1)) 0)) refl
+  -- a frame that was looked at whole is still whole
+  whole-again : (e : Ending) → fitted u (foundOf (whole p u e)) ≡ foundOf (whole p u e)
+  unfolding whole fitShape
+  whole-again (bad n) = refl
+  whole-again (got k t) = go (ltb u (wireLength k t)) (foreign k (getD p (u - wireLength k t + (size k - 1)) 0)) refl
     where
-      go : (a b : Bool) → ltb u (wireLength k t) ≡ a
-          → fitted u s (foundOf (cond a (bad 2) (cond b (bad 7) (got k t)))) ≡ foundOf (beside later s (cond a (bad 2) (cond b (bad 7) (got k t))))
+      go : (a b : Bool) → ltb u (wireLength k t) ≡ a → fitted u (foundOf (cond a (bad 2) (cond b (bad 7) (got k t)))) ≡ foundOf (cond a (bad 2) (cond b (bad 7) (got k t)))
       go true b e = refl
       go false true e = refl
-      go false false e = fit-coder later s k t (h k t refl) e
+      go false false e = simp e
 
-  pub kind-bad : (later n : ℕ) → ending p u ≡ bad n → ByKind p u later (Bad n)
-  unfolding lastFrame whole beside
-  kind-bad later n e = record { steps = λ s. rw e }
+  pub kind-bad : (n : ℕ) → ending p u ≡ bad n → ByKind p u (Bad n)
+  unfolding lastFrame whole
+  kind-bad n e = record { whole = rw e }
 
-  plain-steps : (later s : ℕ) (k : Kind) → late k later ≡ false → ((x : ℕ) → foreign k x ≡ false) → ending p u ≡ got k 0
-      → fitShape u s (shapeOf k 0) ≡ foundOf (beside later s (lastFrame p u))
+  pub kind-plain : (k : Kind) → ((x : ℕ) → foreign k x ≡ false) → ending p u ≡ got k 0 → {x : Shape} → x ≡ shapeOf k 0 → ByKind p u (Got x)
   unfolding lastFrame
-  plain-steps later s k h f e = rw e (plain-fits later s k h f (ltb u (wireLength k 0)) refl)
+  kind-plain k f e ex = record { whole = ap (fitShape u) ex ∙ rw e (plain-whole k f) }
 
-  pub kind-plain : (later : ℕ) (k : Kind) → late k later ≡ false → ((x : ℕ) → foreign k x ≡ false) → ending p u ≡ got k 0 → {x : Shape} → x ≡ shapeOf k 0
-      → ByKind p u later (Got x)
-  kind-plain later k h f e ex = record { steps = λ s. ap (fitShape u s) ex ∙ plain-steps later s k h f e }
-
-  noise-steps : (later s : ℕ) (a b : Bool) → ltb u (wireLength noise 0) ≡ a → ltb 0 later ≡ b → ending p u ≡ got noise 0 → fitted u s (noiseShape u later) ≡ foundOf (beside later s (lastFrame p u))
-  unfolding lastFrame whole beside noiseShape fitShape
-  noise-steps later s true b ha hb e = rw e (simp ha)
-  noise-steps later s false true ha hb e = rw e (simp (ha, hb))
-  noise-steps later s false false ha hb e = rw e (simp (ha, hb, clash-left 0 s refl))
-
-  pub kind-noise : (later : ℕ) → ending p u ≡ got noise 0 → {r : Found} → r ≡ noiseShape u later → ByKind p u later r
-  kind-noise later e er = record { steps = λ s. ap (fitted u s) er ∙ noise-steps later s (ltb u (wireLength noise 0)) (ltb 0 later) refl refl e }
-
-  whole-steps : (later s : ℕ) → ((k : Kind) (t : ℕ) → ending p u ≡ got k t → late k later ≡ false) → fitted u s (foundOf (lastFrame p u)) ≡ foundOf (beside later s (lastFrame p u))
+  -- what was found in the walk's own words
+  pub kind-whole : {r : Found} → r ≡ foundOf (lastFrame p u) → ByKind p u r
   unfolding lastFrame
-  whole-steps later s h = whole-fits later s (ending p u) h
+  kind-whole er = record { whole = ap (fitted u) er ∙ whole-again (ending p u) }
 
-  -- what was found in the walk's own words, where it is no comfort noise
-  pub kind-whole : (later : ℕ) → ((k : Kind) (t : ℕ) → ending p u ≡ got k t → late k later ≡ false) → {r : Found} → r ≡ foundOf (lastFrame p u) → ByKind p u later r
-  kind-whole later h er = record { steps = λ s. ap (fitted u s) er ∙ whole-steps later s h }
-
-  -- a last octet from 128 to 159
-  pub kind-named : (later x : ℕ) → 128 ≤ x → x < 160 → ending p u ≡ named x → {r : Found} → r ≡ foundOf (named x) → ByKind p u later r
-  kind-named later x a b e {r = r} er = go (below-or x 130)
+  -- a last octet from 128 to 191
+  pub kind-named : (x : ℕ) → 128 ≤ x → x < 192 → ending p u ≡ named x → {r : Found} → r ≡ foundOf (named x) → ByKind p u r
+  kind-named x a b e {r = r} er = go (below-or x 130) (below-or x 160)
     where
-      go : (x < 130) ⊎ (130 ≤ x) → ByKind p u later r
-      go (inl c) =
-          let n = named-1200 x a c in
-          record { steps = λ s. ap (fitted u s) (er ∙ ap foundOf n) ∙ plain-steps later s bps1200 refl (λ y. refl) (e ∙ n) }
-      go (inr c) =
-          let n = named-foreign x c b in
-          record { steps = λ s. ap (fitted u s) (er ∙ ap foundOf n) ∙ kind-bad later 3 (e ∙ n) .steps s }
+      plain : (k : Kind) → ((y : ℕ) → foreign k y ≡ false) → named x ≡ got k 0 → ByKind p u r
+      plain k f n = record { whole = ap (fitted u) (er ∙ ap foundOf n) ∙ kind-plain k f (e ∙ n) refl .whole }
+
+      go : (x < 130) ⊎ (130 ≤ x) → (x < 160) ⊎ (160 ≤ x) → ByKind p u r
+      go (inl c) d = plain bps1200 (λ y. refl) (named-1200 x a c)
+      go (inr c) (inl d) =
+          let n = named-foreign x c d in
+          record { whole = ap (fitted u) (er ∙ ap foundOf n) ∙ kind-bad 3 (e ∙ n) .whole }
+      go (inr c) (inr d) = plain noise (λ y. refl) (named-noise x d b)
 
   pub last-bad : (n : ℕ) → ending p u ≡ bad n → Bad n ≡ foundOf (lastFrame p u)
   unfolding lastFrame whole
@@ -187,9 +137,6 @@ count-kind p x h = go (below-or x 255) (below-or 1 (length p))
     go (inl a) w = tsvcis-got (ending p (length p)) (x - 177) (ending-one p (length p) x (h .some) (h .last) a ∙ named-short x (x - 177) (h .high) refl)
     go (inr a) (inl w) = long-kind (ending-two p (length p) tc w (omega (arith, h .last)) refl) (below-or 0 tc) (counts tc)
     go (inr a) (inr w) = bad-got (ending p (length p)) 2 (ending-alone p (length p) (omega (arith, h .some)) (omega (arith, h .last)))
-
-pub count-late : (p : List ℕ) (x later : ℕ) → CountEnd p x → (k : Kind) (t : ℕ) → ending p (length p) ≡ got k t → late k later ≡ false
-count-late p x later h k t e = rw (count-kind p x h k t e) refl
 
 module _ (p : List ℕ) (x : ℕ) (h : CountEnd p x) (y : Shape) (w : Shaped (ending p (length p)) y) where
   is-tsvcis : y ≡ shapeOf tsvcis (w .tc)

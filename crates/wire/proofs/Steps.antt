@@ -95,16 +95,6 @@ clash-two zero s h j d = absurd (h refl)
 clash-two (suc r) zero h j d = absurd (j refl)
 clash-two (suc r) (suc s) h j d = simp (ne-eqb r s (λ e. d (ap suc e)))
 
--- of what is read behind a frame only whether there is any matters
-pub beside-some : (a b s : ℕ) → ltb 0 a ≡ ltb 0 b → (e : Ending) → beside a s e ≡ beside b s e
-unfolding beside
-beside-some a b s h (bad n) = refl
-beside-some a b s h (got bps2400 t) = refl
-beside-some a b s h (got bps1200 t) = refl
-beside-some a b s h (got bps600 t) = refl
-beside-some a b s h (got noise t) = simp h
-beside-some a b s h (got tsvcis t) = refl
-
 -- ---- what a step that found a frame looked at
 
 pick : (a b : Bool) (n m : ℕ) (k j : Kind) (t s : ℕ) → cond a (bad n) (cond b (bad m) (got j s)) ≡ got k t → got j s ≡ got k t

@@ -2,40 +2,60 @@
 use mathlib.Core.Path.{_≡_}
 use mathlib.Core.Bool.{cond}
 use Prim.Native.Nat.{ℕ, _+_, _-_, _≤_, _<_}
-use mathlib.Core.List.{List}
-use lib.Dec.{ltb}
+use mathlib.Core.List.{List, [], _∷_}
+use lib.Bits.{bitAnd}
+use lib.Dec.{ltb, eqb}
 use lib.ListN.{length, getD}
 use Rattle.refusal.specs.Numbers.{cutFrame, noiseNotLast, notBehind2400, mixedRates}
-use Rattle.wire.specs.Frame.{noise, tsvcis, countOf, wireLength}
-use Rattle.wire.specs.Walk.{lastFrame, clash, beside, shapeOf, foundOf}
+use Rattle.wire.specs.Frame.{Frame, Kind, bps2400, bps1200, bps600, noise, tsvcis, countOf}
+use Rattle.wire.specs.Walk.{Ending, bad, got, lastFrame, leaves, bars, foundOf}
 use Rattle.wire.specs.declared.Shape.{Shape}
 use Rattle.wire.specs.declared.Found.{Found}
 use Rattle.wire.specs.declared.Found.the-variants.{Bad, Got}
 
 -- the numbers of a frame whose base is all of it
-abbrev pub plainShape : ℕ → ℕ → ℕ → ℕ → Shape
-plainShape n k c r = record { kind = n; tc = 0; size = k; code = c; rate = r; wire = k; count = 0 }
-
--- comfort noise at the end of u unread octets, where `later` frames behind it are read
-unfoldable pub noiseShape : ℕ → ℕ → Found
-noiseShape u later = cond (ltb u (wireLength noise 0)) (Bad cutFrame) (cond (ltb 0 later) (Bad noiseNotLast) (Got (shapeOf noise 0)))
+abbrev pub plainShape : ℕ → ℕ → ℕ → ℕ → ℕ → ℕ → Shape
+plainShape n k c l b d = record { kind = n; tc = 0; size = k; code = c; leaves = l; bars = b; ticks = d; wire = k; count = 0 }
 
 -- a frame of these numbers with augmentation, if u unread octets hold it whole and it stands behind a 2400 bps frame
 unfoldable pub basedShape : List ℕ → ℕ → Shape → Found
 basedShape p u x = cond (ltb u (x .wire)) (Bad cutFrame) (cond (ltb 63 (getD p (u - x .wire + 6) 0)) (Bad notBehind2400) (Got x))
 
--- a frame of these numbers, if u unread octets hold it whole, beside coder frames of the rate s
-unfoldable pub fitShape : ℕ → ℕ → Shape → Found
-fitShape u s x = cond (ltb u (x .wire)) (Bad cutFrame) (cond (clash (x .rate) s) (Bad mixedRates) (Got x))
+-- a frame of these numbers, if u unread octets hold it whole
+unfoldable pub fitShape : ℕ → Shape → Found
+fitShape u x = cond (ltb u (x .wire)) (Bad cutFrame) (Got x)
 
 -- what was found, put to the same
-abbrev pub fitted : ℕ → ℕ → Found → Found
-fitted u s (Bad n) = Bad n
-fitted u s (Got x) = fitShape u s x
+abbrev pub fitted : ℕ → Found → Found
+fitted u (Bad n) = Bad n
+fitted u (Got x) = fitShape u x
 
--- an answer to what a kind alone is asked: the walk's step, but for what is asked of all kinds
-pub record ByKind (p : List ℕ) (u later : ℕ) (r : Found) : Type 0 where
-  pub steps : (s : ℕ) → fitted u s r ≡ foundOf (beside later s (lastFrame p u))
+-- an answer to what a kind alone is asked: the frame that u octets end in, but for its length
+pub record ByKind (p : List ℕ) (u : ℕ) (r : Found) : Type 0 where
+  pub whole : fitted u r ≡ foundOf (lastFrame p u)
+
+-- a frame of these numbers, if none of its bars is among the bits b behind it; only comfort noise has two octets
+unfoldable pub barShape : ℕ → Shape → Found
+barShape b x = cond (eqb (bitAnd b (x .bars)) 0) (Got x) (cond (eqb (x .wire) 2) (Bad noiseNotLast) (Bad mixedRates))
+
+-- the bit that the frames read leave for those before them: that of the last one read; none where nothing is read
+abbrev pub left : List Frame → ℕ
+left [] = 0
+left (f ∷ fs) = leaves (f .kind)
+
+-- the refusal of a frame of the kind before one that bars it
+abbrev pub barredAs : Kind → ℕ
+barredAs bps2400 = mixedRates
+barredAs bps1200 = mixedRates
+barredAs bps600 = mixedRates
+barredAs noise = noiseNotLast
+barredAs tsvcis = mixedRates
+
+-- 6 and 8 in bits, for any number b as the bits behind; proofs/Barred.antt shows it to be the walk's `beside` where b is
+-- what the frames read leave
+unfoldable pub barred : ℕ → Ending → Ending
+barred b (bad n) = bad n
+barred b (got k t) = cond (eqb (bitAnd b (bars k)) 0) (got k t) (bad (barredAs k))
 
 -- the octets end in x, an octet of a count
 pub record CountEnd (p : List ℕ) (x : ℕ) : Type 0 where

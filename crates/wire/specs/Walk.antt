@@ -6,7 +6,7 @@ use Prim.Native.Nat.{ℕ, zero, suc, _+_, _-_}
 use lib.Dec.{ltb, eqb}
 use lib.ListN.{length, getD, set, take, drop}
 use Rattle.refusal.specs.Numbers.{tooLong, cutFrame, foreignBits, zeroCount, longCount, noiseNotLast, notBehind2400, mixedRates}
-use Rattle.wire.specs.Frame.{Frame, Kind, bps2400, bps1200, bps600, noise, tsvcis, number, size, code, rate, isShort, countOf, wireLength}
+use Rattle.wire.specs.Frame.{Frame, Kind, bps2400, bps1200, bps600, noise, tsvcis, number, size, code, rate, ticks, isShort, countOf, wireLength}
 use Rattle.wire.specs.declared.Shape.{Shape}
 use Rattle.wire.specs.declared.Found.{Found}
 use Rattle.wire.specs.declared.Found.the-variants.{Bad, Got}
@@ -109,9 +109,35 @@ run (suc n) p w = run n p (next p w)
 unfoldable pub readOf : List ℕ → Walk
 readOf p = cond (ltb 1400 (length p)) (refused tooLong 1400 []) (run (length p) p (at (length p) []))
 
+-- what a frame is to those before it, as one bit: a coder frame of its rate, or comfort noise
+abbrev pub leaves : Kind → ℕ
+leaves bps2400 = 1
+leaves bps1200 = 4
+leaves bps600 = 2
+leaves noise = 8
+leaves tsvcis = 1
+
+-- the bits that may not stand behind a frame: those of the other rates, or, behind comfort noise, all
+abbrev pub bars : Kind → ℕ
+bars bps2400 = 6
+bars bps1200 = 3
+bars bps600 = 5
+bars noise = 15
+bars tsvcis = 6
+
 -- all that the code asks of a frame of a kind and TC, in numbers
 abbrev pub shapeOf : Kind → ℕ → Shape
-shapeOf k t = record { kind = number k; tc = t; size = size k; code = code k; rate = rate k; wire = wireLength k t; count = length (countOf k t) }
+shapeOf k t = record {
+  kind = number k;
+  tc = t;
+  size = size k;
+  code = code k;
+  leaves = leaves k;
+  bars = bars k;
+  ticks = ticks k;
+  wire = wireLength k t;
+  count = length (countOf k t);
+}
 
 -- what stands at the end of the unread octets, as the code answers it
 abbrev pub foundOf : Ending → Found

@@ -3,8 +3,8 @@ ghost use mathlib.Core.Path.{_≡_};
 ghost use Prim.Native.Nat.{_≤_, _<_};
 ghost use lib.ListN.{length};
 ghost use Rattle.wire.specs.Frame.{bps2400, bps1200, bps600, noise, tsvcis, ticksOfRate};
-ghost use Rattle.wire.specs.Walk.{named, counted, ending, lastFrame, beside, foundOf, shapeOf};
-ghost use Rattle.wire.specs.Step.{plainShape, noiseShape, basedShape, fitShape, ByKind, CountEnd, CountIs};
+ghost use Rattle.wire.specs.Walk.{named, counted, ending, lastFrame, foundOf, shapeOf};
+ghost use Rattle.wire.specs.Step.{plainShape, basedShape, fitShape, barShape, barred, ByKind, CountEnd, CountIs};
 
 // The kind of a 2400 bps frame without augmentation, the commonest.
 pub const PLAIN_2400: u16 = 1;
@@ -12,14 +12,20 @@ pub const PLAIN_2400: u16 = 1;
 // The kind of a 600 bps frame.
 pub const PLAIN_600: u16 = 3;
 
-// A frame's numbers: kind and TC as in a row, octets of its base, rate code bits, rate, octets on the wire and the
-// octets of its count among them.
+// The octets of comfort noise; no other frame is as short.
+const NOISE_OCTETS: usize = 2;
+
+// A frame's numbers: kind and TC as in a row, octets of its base, rate code bits, the bit that it leaves for the frames
+// before it and the bits that bar it, ticks, octets on the wire and the octets of its count among them. Bits say what was
+// read behind a frame: 1, 2 and 4 a coder frame of 2400, 600 and 1200 bps, 8 comfort noise.
 pub struct Shape {
     pub kind: u16,
     pub tc: usize,
     pub size: usize,
     pub code: u8,
-    pub rate: u32,
+    pub leaves: u8,
+    pub bars: u8,
+    pub ticks: usize,
     pub wire: usize,
     pub count: usize,
 }
@@ -56,15 +62,17 @@ pub fn ticks_of_rate(rate: u32) -> usize
 // ---- the shapes
 
 // A kind without augmentation, whose base is all that stands on the wire.
-fn plain(kind: u16, size: usize, code: u8, rate: u32) -> Shape
-    ensures { λ r. ⌜ r ≡ plainShape kind size code rate ⌝ }
+fn plain(kind: u16, size: usize, code: u8, leaves: u8, bars: u8, ticks: usize) -> Shape
+    ensures { λ r. ⌜ r ≡ plainShape kind size code leaves bars ticks ⌝ }
 {
     Shape {
         kind,
         tc: 0,
         size,
         code,
-        rate,
+        leaves,
+        bars,
+        ticks,
         wire: size,
         count: 0,
     }
@@ -73,25 +81,25 @@ fn plain(kind: u16, size: usize, code: u8, rate: u32) -> Shape
 fn shape_2400() -> Shape
     ensures { λ r. ⌜ r ≡ shapeOf bps2400 0 ⌝ }
 {
-    plain(PLAIN_2400, 7, 0, 2400)
+    plain(PLAIN_2400, 7, 0, 1, 6, 180)
 }
 
 fn shape_1200() -> Shape
     ensures { λ r. ⌜ r ≡ shapeOf bps1200 0 ⌝ }
 {
-    plain(2, 11, 128, 1200)
+    plain(2, 11, 128, 4, 3, 540)
 }
 
 pub fn shape_600() -> Shape
     ensures { λ r. ⌜ r ≡ shapeOf bps600 0 ⌝ }
 {
-    plain(PLAIN_600, 7, 64, 600)
+    plain(PLAIN_600, 7, 64, 2, 5, 720)
 }
 
 fn shape_noise() -> Shape
     ensures { λ r. ⌜ r ≡ shapeOf noise 0 ⌝ }
 {
-    plain(4, 2, 160, 0)
+    plain(4, NOISE_OCTETS, 160, 8, 15, 0)
 }
 
 // A TSVCIS frame of this TC, whose count takes `count` octets.
@@ -104,7 +112,9 @@ fn shape_tsvcis(tc: usize, count: usize) -> Shape
         tc,
         size: 7,
         code: 0,
-        rate: 2400,
+        leaves: 1,
+        bars: 6,
+        ticks: 180,
         wire: 7 + tc + count,
         count,
     }
@@ -112,27 +122,18 @@ fn shape_tsvcis(tc: usize, count: usize) -> Shape
 
 // ---- what the last octets name
 
-// The frame that a last octet below 255 names.
+// The frame that a last octet from 128 to 191 names.
 fn last_octet(x: u8) -> Found
-    requires { ⌜ x < 255 ⌝ }
+    requires { ⌜ (128 ≤ x) × (x < 192) ⌝ }
     ensures { λ r. ⌜ r ≡ foundOf (named x) ⌝ }
 {
-    if x < 64 {
-        return Found::Got(shape_2400());
-    }
-    if x < 128 {
-        return Found::Got(shape_600());
+    if 159 < x {
+        return Found::Got(shape_noise());
     }
     if x < 130 {
         return Found::Got(shape_1200());
     }
-    if x < 160 {
-        return Found::Bad(refusal::FOREIGN_BITS);
-    }
-    if x < 192 {
-        return Found::Got(shape_noise());
-    }
-    Found::Got(shape_tsvcis(wide(x) - 177, 1))
+    Found::Bad(refusal::FOREIGN_BITS)
 }
 
 // The frame that a long count of `tc` names.
@@ -167,8 +168,8 @@ fn last_count(unread: &[u8], x: u8) -> Found
     long_count(wide(unread[n - 2]))
 }
 
-// The frame that the unread octets name by their end, whole or not. Here and in `by_kind` the commonest kinds are looked
-// for first: the order of the tests is for speed alone.
+// The frame that the unread octets name by their end, whole or not. Here and in `by_kind` the order of the tests is for
+// speed alone.
 pub fn name(unread: &[u8]) -> Found
     ensures { λ r. ⌜ r ≡ foundOf (ending (now (unread .entry)) (length (now (unread .entry)))) ⌝ }
 {
@@ -190,19 +191,6 @@ pub fn name(unread: &[u8]) -> Found
 }
 
 // ---- the walk's step: first what is asked of one kind alone, then what is asked of all
-
-// Comfort noise, with `later` frames behind it.
-fn noise_frame(n: usize, later: usize) -> Found
-    ensures { λ r. ⌜ r ≡ noiseShape n later ⌝ }
-{
-    if n < 2 {
-        return Found::Bad(refusal::CUT);
-    }
-    if 0 < later {
-        return Found::Bad(refusal::NOISE_NOT_LAST);
-    }
-    Found::Got(shape_noise())
-}
 
 // A frame whose augmentation must stand behind a 2400 bps frame.
 fn augmented_frame(unread: &[u8], shape: Shape) -> Found
@@ -233,8 +221,8 @@ fn tsvcis_frame(unread: &[u8], x: u8) -> Found
 }
 
 // The frame that the unread octets end in, with what its kind alone is asked.
-fn by_kind(unread: &[u8], later: usize) -> Found
-    ensures { λ r. ⌜ ByKind (now (unread .entry)) (length (now (unread .entry))) later r ⌝ }
+fn by_kind(unread: &[u8]) -> Found
+    ensures { λ r. ⌜ ByKind (now (unread .entry)) (length (now (unread .entry))) r ⌝ }
 {
     let n = unread.len();
     if n == 0 {
@@ -244,45 +232,57 @@ fn by_kind(unread: &[u8], later: usize) -> Found
     if x < 64 {
         return Found::Got(shape_2400());
     }
-    if x < 128 {
-        return Found::Got(shape_600());
-    }
-    if 191 < x {
-        return tsvcis_frame(unread, x);
-    }
-    if x < 160 {
+    if x < 192 {
+        if x < 128 {
+            return Found::Got(shape_600());
+        }
         return last_octet(x);
     }
-    noise_frame(n, later)
+    tsvcis_frame(unread, x)
 }
 
-// A frame at the end of n unread octets, beside coder frames of the rate `rate`, or beside none.
-fn fits(n: usize, shape: Shape, rate: u32) -> Found
-    ensures { λ r. ⌜ r ≡ fitShape n rate shape ⌝ }
+// A frame at the end of n unread octets.
+fn fits(n: usize, shape: Shape) -> Found
+    ensures { λ r. ⌜ r ≡ fitShape n shape ⌝ }
 {
     if n < shape.wire {
         return Found::Bad(refusal::CUT);
     }
-    if rate == shape.rate {
+    Found::Got(shape)
+}
+
+// The frame that the unread octets end in, whole.
+fn last_frame(unread: &[u8]) -> Found
+    ensures { λ r. ⌜ r ≡ foundOf (lastFrame (now (unread .entry)) (length (now (unread .entry)))) ⌝ }
+{
+    let found = by_kind(unread);
+    match found {
+        Found::Bad(number) => Found::Bad(number),
+        Found::Got(shape) => fits(unread.len(), shape),
+    }
+}
+
+// A frame beside what was read behind it.
+fn beside(shape: Shape, behind: u8) -> Found
+    ensures { λ r. ⌜ r ≡ barShape behind shape ⌝ }
+{
+    if behind & shape.bars == 0 {
         return Found::Got(shape);
     }
-    if rate == 0 {
-        return Found::Got(shape);
-    }
-    if shape.rate == 0 {
-        return Found::Got(shape);
+    if shape.wire == NOISE_OCTETS {
+        return Found::Bad(refusal::NOISE_NOT_LAST);
     }
     Found::Bad(refusal::MIXED_RATES)
 }
 
-// The walk's step: the frame that the unread octets end in, where `later` frames or octets behind it are read, of the rate
-// `rate` (0 where no coder frame is among them); or the refusal, in document 01's order.
-pub fn step(unread: &[u8], later: usize, rate: u32) -> Found
-    ensures { λ r. ⌜ r ≡ foundOf (beside later rate (lastFrame (now (unread .entry)) (length (now (unread .entry))))) ⌝ }
+// The walk's step: the frame that the unread octets end in, where the frame behind it left the bit `behind` (0 where there
+// is none); or the refusal, in document 01's order.
+pub fn step(unread: &[u8], behind: u8) -> Found
+    ensures { λ r. ⌜ r ≡ foundOf (barred behind (lastFrame (now (unread .entry)) (length (now (unread .entry))))) ⌝ }
 {
-    let found = by_kind(unread, later);
+    let found = last_frame(unread);
     match found {
         Found::Bad(number) => Found::Bad(number),
-        Found::Got(shape) => fits(unread.len(), shape, rate),
+        Found::Got(shape) => beside(shape, behind),
     }
 }

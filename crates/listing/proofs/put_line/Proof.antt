@@ -4,11 +4,11 @@ use borrow.Author.Needs.{needs}
 use Rattle.listing.proofs.put_line.Statement.{statement}
 use Rattle.listing.proofs.put_line.Tie as tie
 
-survey-requires : tie.Need-survey-requires
-survey-requires c κs = search needs
+walk-requires : tie.Need-walk-requires
+walk-requires c κs = search needs
 
-enum-known-contents : tie.Need-enum-known-contents
-enum-known-contents c = search needs
+enum-known-walked : tie.Need-enum-known-walked
+enum-known-walked c = search needs
 
 slice-aggregate-put-row : tie.Need-slice-aggregate-put-row
 slice-aggregate-put-row c = search needs
@@ -22,8 +22,8 @@ wide-requires-2 c κs = search needs
 put-row-requires : tie.Need-put-row-requires
 put-row-requires c κs = search needs
 
-enum-known-contents-2 : tie.Need-enum-known-contents-2
-enum-known-contents-2 c = search needs
+enum-known-walked-2 : tie.Need-enum-known-walked-2
+enum-known-walked-2 c = search needs
 
 slice-aggregate-put-row-2 : tie.Need-slice-aggregate-put-row-2
 slice-aggregate-put-row-2 c = search needs
@@ -41,25 +41,25 @@ same-length : tie.Need-same-length
 same-length c = search needs
 
 returns : tie.Need-returns
-returns c = let z = c .before .before .before .before .before .before .before .before .before .before .before .before .before in line-whole (z .args .out .now) (z .args .at) (z .args .n) (z .args .payload .now) (c .before .before .before .before .before .before .before .before .before .before .survey .ensures .answer) _ (c .before .before .before .before .before .before .before .before .contents .given .1) (c .before .before .before .before .wide .ensures) (c .before .before .before .wide2 .ensures) (c .before .before .put-row .ensures)
+returns c = let z = c .before .before .before .before .before .before .before .before .before .before .before .before .before in line-whole (z .args .out .now) (z .args .at) (z .args .n) (z .args .payload .now) (c .before .before .before .before .before .before .before .before .before .before .walk .ensures .answer) _ (c .before .before .before .before .before .before .before .before .walked .given .1) (c .before .before .before .before .wide .ensures) (c .before .before .before .wide2 .ensures) (c .before .before .put-row .ensures)
 
 same-length-2 : tie.Need-same-length-2
 same-length-2 c = search needs
 
 returns-2 : tie.Need-returns-2
-returns-2 c = let z = c .before .before .before .before .before .before .before .before .before .before .before .before .before in line-refused (z .args .out .now) (z .args .at) (z .args .n) (z .args .payload .now) (c .before .before .before .before .before .before .before .before .before .before .survey .ensures .answer) _ (c .before .before .before .before .before .before .before .before .contents2 .given .1) refl (c .before .before .before .wide3 .ensures) (c .before .before .put-row2 .ensures)
+returns-2 c = let z = c .before .before .before .before .before .before .before .before .before .before .before .before .before in line-refused (z .args .out .now) (z .args .at) (z .args .n) (z .args .payload .now) (c .before .before .before .before .before .before .before .before .before .before .walk .ensures .answer) _ (c .before .before .before .before .before .before .before .before .walked2 .given .1) refl (c .before .before .before .wide3 .ensures) (c .before .before .put-row2 .ensures)
 
 pub put-line-spec : {M : Type 1} → statement M
 put-line-spec =
     tie.close
     (tie.spec
-    survey-requires
-    enum-known-contents
+    walk-requires
+    enum-known-walked
     slice-aggregate-put-row
     wide-requires
     wide-requires-2
     put-row-requires
-    enum-known-contents-2
+    enum-known-walked-2
     slice-aggregate-put-row-2
     cast-put-row
     wide-requires-3

@@ -8,14 +8,14 @@ use Rattle.payload.proofs.walk.Statement.{statement}
 use Rattle.payload.proofs.walk.Tie as tie
 
 abbrev Inv-loop : tie.InvT-loop
-Inv-loop payload unread₀ frames₀ counts₀ rate₀ unread frames counts rate = Held payload unread frames counts rate
+Inv-loop payload unread₀ frames₀ octets₀ ticks₀ behind₀ unread frames octets ticks behind = Held payload unread frames octets ticks behind
 
 abbrev μ-loop : tie.MeasureT-loop
-μ-loop payload unread₀ frames₀ counts₀ rate₀ unread frames counts rate = unread
+μ-loop payload unread₀ frames₀ octets₀ ticks₀ behind₀ unread frames octets ticks behind = unread
 
 -- the turn's frame
 frame : (c : tie.After-found2 Inv-loop μ-loop) → Sized (c .before .before .before .before .before .loop .unread) (c .found2 .given .0 .0)
-frame c = held-sized _ _ _ _ _ (c .before .before .before .before .before .loop .inv) (c .before .before .before .before .loop-test .taken) (λ i. c .before .before .before .before .before .before .before .shared-slice-known .given i .fits) _ (c .found2 .given .1) (c .before .before .step .ensures)
+frame c = held-sized _ _ _ _ _ _ (c .before .before .before .before .before .loop .inv) (c .before .before .before .before .loop-test .taken) (λ i. c .before .before .before .before .before .before .before .shared-slice-known .given i .fits) _ (c .found2 .given .1) (c .before .before .step .ensures)
 
 returns : tie.Need-returns Inv-loop μ-loop
 returns c = walks _ (too-long _ (omega arith))
@@ -26,9 +26,6 @@ loop-holds c = held-start _ (omega arith)
 slice-aggregate-step : tie.Need-slice-aggregate-step Inv-loop μ-loop
 slice-aggregate-step c = sym (length-take-le _ _ (omega (arith, c .before .before .loop .inv .few)))
 
-sub-step : tie.Need-sub-step Inv-loop μ-loop
-sub-step c = omega (arith, c .before .before .loop .inv .few)
-
 step-requires : tie.Need-step-requires Inv-loop μ-loop
 step-requires c κs = search needs
 
@@ -36,7 +33,7 @@ enum-known-found : tie.Need-enum-known-found Inv-loop μ-loop
 enum-known-found c = search needs
 
 returns-2 : tie.Need-returns-2 Inv-loop μ-loop
-returns-2 c = walks _ (held-bad _ _ _ _ _ (c .before .before .before .before .before .before .loop .inv) (c .before .before .before .before .before .loop-test .taken) _ (c .before .found .given .1) (c .before .before .before .step .ensures))
+returns-2 c = walks _ (held-bad _ _ _ _ _ _ (c .before .before .before .before .before .before .loop .inv) (c .before .before .before .before .before .loop-test .taken) _ (c .before .found .given .1) (c .before .before .before .step .ensures))
 
 enum-known-found-2 : tie.Need-enum-known-found-2 Inv-loop μ-loop
 enum-known-found-2 c = search needs
@@ -47,20 +44,20 @@ sub-unread c = frame (c .before .before) .room
 add-frames : tie.Need-add-frames Inv-loop μ-loop
 add-frames c = omega (arith, c .before .before .before .before .before .before .before .loop .inv .few, c .before .before .before .before .before .before .before .loop .inv .short)
 
-add-counts : tie.Need-add-counts Inv-loop μ-loop
-add-counts c = let w = frame (c .before .before .before) in omega (arith, w .parts, w .room, c .before .before .before .before .before .before .before .before .loop .inv .octets, c .before .before .before .before .before .before .before .before .loop .inv .short)
+sub-octets : tie.Need-sub-octets Inv-loop μ-loop
+sub-octets c = let w = frame (c .before .before .before) in omega (arith, w .parts, w .room, c .before .before .before .before .before .before .before .before .loop .inv .octets)
+
+add-ticks : tie.Need-add-ticks Inv-loop μ-loop
+add-ticks c = let w = frame (c .before .before .before .before) in omega (arith, w .lasts, c .before .before .before .before .before .before .before .before .before .loop .inv .most, c .before .before .before .before .before .before .before .before .before .loop .inv .few, c .before .before .before .before .before .before .before .before .before .loop .inv .short)
 
 loop-less : tie.Need-loop-less Inv-loop μ-loop
-loop-less c = omega (arith, frame (c .before .before .before) .some, c .before .before .before .before .before .before .before .loop-test .taken)
+loop-less c = omega (arith, frame (c .before .before .before .before) .some, c .before .before .before .before .before .before .before .before .loop-test .taken)
 
 loop-again : tie.Need-loop-again Inv-loop μ-loop
-loop-again c = held-got _ _ _ _ _ (c .before .before .before .before .before .before .before .before .loop .inv) (c .before .before .before .before .before .before .before .loop-test .taken) (λ i. c .before .before .before .before .before .before .before .before .before .before .shared-slice-known .given i .fits) _ (c .before .before .before .found2 .given .1) (c .before .before .before .before .before .step .ensures)
-
-sub-t18 : tie.Need-sub-t18 Inv-loop μ-loop
-sub-t18 c = omega (arith, c .before .loop .inv .octets)
+loop-again c = held-got _ _ _ _ _ _ (c .before .before .before .before .before .before .before .before .before .loop .inv) (c .before .before .before .before .before .before .before .before .loop-test .taken) (λ i. c .before .before .before .before .before .before .before .before .before .before .before .shared-slice-known .given i .fits) _ (c .before .before .before .before .found2 .given .1) (c .before .before .before .before .before .before .step .ensures)
 
 returns-3 : tie.Need-returns-3 Inv-loop μ-loop
-returns-3 c = walks _ (held-end _ _ _ _ _ (c .before .loop .inv) (c .loop-test .left))
+returns-3 c = walks _ (held-end _ _ _ _ _ _ (c .before .loop .inv) (c .loop-test .left))
 
 pub walk-spec : {M : Type 1} → statement M
 walk-spec =
@@ -71,15 +68,14 @@ walk-spec =
     returns
     loop-holds
     slice-aggregate-step
-    sub-step
     step-requires
     enum-known-found
     returns-2
     enum-known-found-2
     sub-unread
     add-frames
-    add-counts
+    sub-octets
+    add-ticks
     loop-less
     loop-again
-    sub-t18
     returns-3)

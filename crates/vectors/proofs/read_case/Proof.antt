@@ -39,8 +39,8 @@ slice-aggregate-say c = search needs
 say-requires : tie.Need-say-requires
 say-requires c κs = search needs
 
-say-survey-requires : tie.Need-say-survey-requires
-say-survey-requires c κs = search needs
+say-walk-requires : tie.Need-say-walk-requires
+say-walk-requires c κs = search needs
 
 slice-aggregate-say-2 : tie.Need-slice-aggregate-say-2
 slice-aggregate-say-2 c = search needs
@@ -69,7 +69,7 @@ read-case-spec =
     say-reading-requires
     slice-aggregate-say
     say-requires
-    say-survey-requires
+    say-walk-requires
     slice-aggregate-say-2
     say-requires-2
     say-ticks-requires

@@ -1,12 +1,11 @@
-use native.Mathlib.Omega.{arith}
-use mathlib.Core.Path.{refl, ap, sym, _∙_}
-use Rattle.wire.specs.Step.{fitted}
+use Rattle.wire.proofs.Shapes.{bad-is, shaped}
+use Rattle.wire.proofs.Barred.{step-bad, step-got}
 use borrow.Author.Needs.{needs}
 use Rattle.wire.proofs.step.Statement.{statement}
 use Rattle.wire.proofs.step.Tie as tie
 
-by-kind-requires : tie.Need-by-kind-requires
-by-kind-requires c κs = search needs
+last-frame-requires : tie.Need-last-frame-requires
+last-frame-requires c κs = search needs
 
 enum-known-found : tie.Need-enum-known-found
 enum-known-found c = search needs
@@ -14,16 +13,16 @@ enum-known-found c = search needs
 enum-known-found-2 : tie.Need-enum-known-found-2
 enum-known-found-2 c = search needs
 
-fits-requires : tie.Need-fits-requires
-fits-requires c κs = search needs
+beside-requires : tie.Need-beside-requires
+beside-requires c κs = search needs
 
 returns : tie.Need-returns
-returns c = sym (ap (fitted _ _) (c .before .found .given .1)) ∙ c .before .before .before .by-kind .ensures .steps _
+returns c = step-bad _ _ _ (bad-is _ _ (c .before .found .given .1) (c .before .before .before .last-frame .ensures))
 
 returns-2 : tie.Need-returns-2
-returns-2 c = c .fits2 .ensures ∙ sym (ap (fitted _ _) (c .before .before .found2 .given .1)) ∙ c .before .before .before .before .by-kind .ensures .steps _
+returns-2 c = step-got _ _ _ (λ i. c .before .before .before .before .before .shared-slice-known .given i .fits) _ (shaped _ _ (c .before .before .found2 .given .1) (c .before .before .before .before .last-frame .ensures)) (c .beside .ensures)
 
 pub step-spec : {M : Type 1} → statement M
 step-spec =
     tie.close
-    (tie.spec by-kind-requires enum-known-found enum-known-found-2 fits-requires returns returns-2)
+    (tie.spec last-frame-requires enum-known-found enum-known-found-2 beside-requires returns returns-2)
