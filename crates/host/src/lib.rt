@@ -13,8 +13,8 @@ use fmtp::Parsed;
 use fmtp::Written;
 use payload::Reading;
 use payload::Walked;
+use payload::Writing;
 use views::Place;
-use writer::Writing;
 
 // A reading: document 01's number (0 where accepted) and place, rows and body octets.
 #[repr(C)]
@@ -105,7 +105,7 @@ pub extern "C" fn moult_read(payload: &[u8], rows: &mut [u16], bodies: &mut [u8]
 pub extern "C" fn moult_write(rows: &[u16], bodies: &[u8], out: &mut [u8]) -> MoultWriting
     ensures { λ r. ⌜ HostWrites (now (rows .entry)) (now (bodies .entry)) (now (out .entry)) r (now (out .exit)) ⌝ }
 {
-    let answer = writer::write(rows, bodies, out);
+    let answer = payload::write(rows, bodies, out);
     match answer {
         Writing::Written(n) => MoultWriting {
             number: 0,
@@ -165,7 +165,8 @@ pub extern "C" fn moult_ptime(rate: u32, frames: usize) -> MoultTime
 pub extern "C" fn moult_augmentation(payload: &[u8], row: usize) -> MoultPart
     ensures { λ r. ⌜ r ≡ spanOf (augmentationOf (placeOf (readOf (now (payload .entry))) row) (lent 0 (now (payload .entry)))) ⌝ }
 {
-    let place = views::locate(payload, row);
+    let end = views::end_of(payload, row);
+    let place = views::place_at(payload, end);
     match place {
         Place::Missing => MoultPart {
             stand_in: 0,
@@ -195,7 +196,8 @@ pub extern "C" fn moult_augmentation(payload: &[u8], row: usize) -> MoultPart
 pub extern "C" fn moult_frame_or(payload: &[u8], row: usize, stand_in: &[u8]) -> MoultPart
     ensures { λ r. ⌜ r ≡ spanOf (frameOr (placeOf (readOf (now (payload .entry))) row) (lent 0 (now (payload .entry))) (lent 1 (now («stand_in» .entry)))) ⌝ }
 {
-    let place = views::locate(payload, row);
+    let end = views::end_of(payload, row);
+    let place = views::place_at(payload, end);
     match place {
         Place::Missing => MoultPart {
             stand_in: 1,

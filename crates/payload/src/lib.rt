@@ -9,6 +9,12 @@ ghost use Rattle.payload.specs.Promise.{Reads};
 use refusal::Refusal;
 use wire::Found;
 use wire::Shape;
+// The writer, which is a crate of its own so that it is proved by itself.
+pub use writer::RowCheck;
+pub use writer::Totals;
+pub use writer::Writing;
+pub use writer::check_rows;
+pub use writer::write;
 
 const MOST_OCTETS: usize = 1400;
 

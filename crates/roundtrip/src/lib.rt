@@ -6,7 +6,7 @@ ghost use Prim.Native.Nat.{_≤_, _<_};
 ghost use lib.ListN.{length};
 ghost use Rattle.roundtrip.specs.Trips.{Same, Describes, ReadAgain, ReadBack, WrittenAgain, WriteBack};
 use payload::Reading;
-use writer::Writing;
+use payload::Writing;
 
 // Whether two row lists are the same.
 fn same_rows(a: &[u16], b: &[u16]) -> bool
@@ -86,7 +86,7 @@ pub fn read_back(
 ) -> bool
     ensures { λ r. ⌜ ReadBack (now (rows .entry)) (now (bodies .entry)) (now (out .entry)) (now («rows_back» .entry)) (now («bodies_back» .entry)) r (now (out .exit)) (now («rows_back» .exit)) (now («bodies_back» .exit)) ⌝ }
 {
-    let written = writer::write(rows, bodies, out);
+    let written = payload::write(rows, bodies, out);
     match written {
         Writing::Refused(_) => true,
         Writing::Written(n) => reads_as(&out[..n], rows, bodies, rows_back, bodies_back),
@@ -98,7 +98,7 @@ fn writes_as(payload: &[u8], rows: &[u16], bodies: &[u8], out: &mut [u8]) -> boo
     requires { ⌜ Describes (now payload) (now rows) (now bodies) ⌝ }
     ensures { λ r. ⌜ WrittenAgain (now (rows .entry)) (now (bodies .entry)) (now (out .entry)) r (now (out .exit)) ⌝ }
 {
-    let written = writer::write(rows, bodies, out);
+    let written = payload::write(rows, bodies, out);
     match written {
         Writing::Refused(refusal) => wants_room(refusal.number),
         Writing::Written(n) => same_octets(payload, &out[..n]),

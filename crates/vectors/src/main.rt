@@ -24,8 +24,8 @@ use libc::STDIN_FILENO;
 use libc::STDOUT_FILENO;
 use payload::Reading;
 use payload::Walked;
+use payload::Writing;
 use refusal::Refusal;
-use writer::Writing;
 
 // ---- writing
 
@@ -426,7 +426,7 @@ fn time_case(rate: usize, frames: usize) {
 fn say_writing(rows: &[u16], bodies: &[u8], out: &mut [u8], octets: usize)
     requires { ⌜ octets ≤ length (now out) ⌝ }
 {
-    let answer = writer::write(rows, bodies, &mut out[..octets]);
+    let answer = payload::write(rows, bodies, &mut out[..octets]);
     match answer {
         Writing::Refused(r) => say_refused(r),
         Writing::Written(n) => say_number(n),

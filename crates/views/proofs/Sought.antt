@@ -5,6 +5,7 @@ use mathlib.Core.List.{List, [], _∷_}
 use Prim.Native.Nat.{ℕ, zero, suc, _+_, _-_, _≤_, _<_}
 use native.Mathlib.Omega.{arith}
 use lib.ListN.{length, take}
+use borrow.Author.Tests.{lt-ltb, le-ltb}
 use Rattle.refusal.specs.declared.Refusal.{Refusal}
 use Rattle.wire.specs.Frame.{Frame, Octets, wireLength}
 use Rattle.wire.specs.Walk.{Ending, bad, got, ending, lastFrame, beside, seen, turn, frameAt, run, readOf, Walk, at, refused, shapeOf, foundOf}
@@ -23,7 +24,8 @@ use Rattle.payload.specs.declared.Walked.{Walked}
 use Rattle.payload.specs.declared.Walked.the-variants as walked
 use Rattle.payload.proofs.Seen.{differ, View, over, not, view, went, stopped}
 use Rattle.payload.proofs.Onward.{read-run, grows, Onward, onward, onward-bad, onward-shape, onward-whole}
-use Rattle.views.specs.View.{sizesOf, spot, placeOf, ends, endOf, rowBefore, Holds}
+use Rattle.views.specs.View.{sizesOf, spot, placeOf, placeAt, before, beforeEnd, ends, endOf, rowBefore, Holds}
+use Rattle.views.specs.declared.Place.{Place}
 use Rattle.views.specs.declared.Place.the-variants.{At, Missing}
 use Rattle.views.proofs.Shown.{spot-past}
 
@@ -208,3 +210,34 @@ module _ (p : List ℕ) (row : ℕ) (o : Octets p) {e : ℕ} (is : e ≡ endOf (
       none m =
           let q : f ≡ Bad 2 = b ∙ ap foundOf (ending-take p e end-inside ∙ ending-none p e (m .0)) in
           absurd (let z : _≡_ {A = ℕ} 0 1 = cc in omega arith)
+
+-- ---- a place from its end
+
+module _ (e : ℕ) (x : Shape) where
+  pub before-cut : e < x .wire → Missing ≡ beforeEnd e x
+  unfolding beforeEnd
+  before-cut h = simp (lt-ltb e (x .wire) h)
+
+  pub before-got : x .wire ≤ e → At (e - x .wire) (sizesOf x) ≡ beforeEnd e x
+  unfolding beforeEnd
+  before-got h = simp (le-ltb e (x .wire) h)
+
+module _ (p : List ℕ) (e : ℕ) where
+  pub at-past : length p < e → Missing ≡ placeAt p e
+  unfolding placeAt
+  at-past h = simp (lt-ltb (length p) e h)
+
+  pub at-found : e ≤ length p → (f : Found) → f ≡ foundOf (ending (take e p) (length (take e p))) → before e f ≡ placeAt p e
+  unfolding placeAt
+  at-found h f b = simp (le-ltb (length p) e h) (ap (before e) (b ∙ ap foundOf (ending-take p e h)))
+
+-- the octets up to a row's end name its frame
+pub place-end : (p : List ℕ) (row : ℕ) → Octets p → {e : ℕ} → e ≡ endOf (readOf p) row → {r : Place} → r ≡ placeAt p e → r ≡ placeOf (readOf p) row
+place-end p row o {e} is er = er ∙ sym (at-found p e (end-inside p row o is) found refl) ∙ go found refl
+  where
+    found : Found
+    found = foundOf (ending (take e p) (length (take e p)))
+
+    go : (f : Found) → f ≡ found → before e f ≡ placeOf (readOf p) row
+    go (Bad n) b = end-bad p row o is n refl b
+    go (Got x) b = let w = end-got p row o is x refl b in sym (before-got e x (w .room)) ∙ w .here refl

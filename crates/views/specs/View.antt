@@ -3,11 +3,13 @@ use mathlib.Core.Path.{_≡_}
 use mathlib.Core.Bool.{cond}
 use mathlib.Core.List.{List, [], _∷_, _++_}
 use Prim.Native.Nat.{ℕ, zero, suc, _+_, _-_, _≤_, _<_}
-use lib.Dec.{eqb}
+use lib.Dec.{ltb, eqb}
 use lib.ListN.{length, take, drop}
 use Rattle.wire.specs.Frame.{Frame, size, wireLength, wire, octetsOf, Legal}
-use Rattle.wire.specs.Walk.{Walk, at, refused, readOf, shapeOf}
+use Rattle.wire.specs.Walk.{Walk, at, refused, readOf, ending, shapeOf, foundOf}
 use Rattle.wire.specs.declared.Shape.{Shape}
+use Rattle.wire.specs.declared.Found.{Found}
+use Rattle.wire.specs.declared.Found.the-variants.{Bad, Got}
 use Rattle.views.specs.declared.Sizes.{Sizes}
 use Rattle.views.specs.declared.Place.{Place}
 use Rattle.views.specs.declared.Place.the-variants.{At, Missing}
@@ -35,6 +37,19 @@ ends Missing = 0
 -- where "the row's own wire octets" end
 abbrev pub endOf : Walk → ℕ → ℕ
 endOf w row = ends (placeOf w row)
+
+-- the place of a frame of these numbers that ends at e; missing where e octets do not hold it
+unfoldable pub beforeEnd : ℕ → Shape → Place
+beforeEnd e x = cond (ltb e (x .wire)) Missing (At (e - x .wire) (sizesOf x))
+
+-- the same of what the octets up to e name
+abbrev pub before : ℕ → Found → Place
+before e (Bad n) = Missing
+before e (Got x) = beforeEnd e x
+
+-- the place of the frame that the first e octets name by their end; missing where there are not so many
+unfoldable pub placeAt : List ℕ → ℕ → Place
+placeAt p e = cond (ltb (length p) e) Missing (before e (foundOf (ending p e)))
 
 -- the row that has `behind` rows behind it
 abbrev pub rowBefore : Walk → ℕ → ℕ

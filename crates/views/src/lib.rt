@@ -1,9 +1,10 @@
 // Frames shown in place: parts of the lent payload itself, never copies.
 ghost use mathlib.Core.Path.{_≡_};
 ghost use Rattle.wire.specs.Walk.{readOf};
-ghost use Rattle.views.specs.View.{placeOf, endOf, rowBefore, Holds, AugmentationShown, FrameShown};
+ghost use Rattle.views.specs.View.{placeOf, placeAt, beforeEnd, endOf, rowBefore, Holds, AugmentationShown, FrameShown};
 use payload::Walked;
 use wire::Found;
+use wire::Shape;
 
 // A frame's octets: of its base, of its augmentation, and all on the wire.
 pub struct Sizes {
@@ -19,7 +20,7 @@ pub enum Place {
 }
 
 // Where the frame ends that has `behind` frames behind it, in a payload that is known to hold it: the payload's octets, less
-// those of the frames behind. A number alone goes from here to `locate`: a place would go through memory.
+// those of the frames behind.
 fn back(payload: &[u8], behind: usize) -> usize
     requires { ⌜ Holds (now payload) behind ⌝ }
     ensures { λ r. ⌜ r ≡ endOf (readOf (now (payload .entry))) (rowBefore (readOf (now (payload .entry))) behind) ⌝ }
@@ -41,8 +42,9 @@ fn back(payload: &[u8], behind: usize) -> usize
     unread
 }
 
-// Where a row's frame ends in the payload; 0 where the payload is refused or the row missing.
-fn end_of(payload: &[u8], row: usize) -> usize
+// Where a row's frame ends in the payload; 0 where the payload is refused or the row missing. This is the long part of a
+// view, and its answer a number, which goes by a register where a place would go through memory.
+pub fn end_of(payload: &[u8], row: usize) -> usize
     ensures { λ r. ⌜ r ≡ endOf (readOf (now (payload .entry))) row ⌝ }
 {
     let walked = payload::walk(payload);
@@ -58,24 +60,44 @@ fn end_of(payload: &[u8], row: usize) -> usize
     }
 }
 
+// The place of a frame that ends at an index; missing where so few octets do not hold it.
+fn before(end: usize, shape: Shape) -> Place
+    ensures { λ r. ⌜ r ≡ beforeEnd end shape ⌝ }
+{
+    if end < shape.wire {
+        return Place::Missing;
+    }
+    Place::At(
+        end - shape.wire,
+        Sizes {
+            size: shape.size,
+            tc: shape.tc,
+            wire: shape.wire,
+        },
+    )
+}
+
+// The place of the frame that the payload's octets up to an index end in; missing where there is none.
+pub fn place_at(payload: &[u8], end: usize) -> Place
+    ensures { λ r. ⌜ r ≡ placeAt (now (payload .entry)) end ⌝ }
+{
+    if payload.len() < end {
+        return Place::Missing;
+    }
+    let found = wire::name(&payload[..end]);
+    match found {
+        Found::Bad(_) => Place::Missing,
+        Found::Got(shape) => before(end, shape),
+    }
+}
+
 // The place of a row, missing too where the payload is refused: the numbers behind both views. A missing row ends at 0,
 // where no frame is named.
 pub fn locate(payload: &[u8], row: usize) -> Place
     ensures { λ r. ⌜ r ≡ placeOf (readOf (now (payload .entry))) row ⌝ }
 {
     let end = end_of(payload, row);
-    let found = wire::name(&payload[..end]);
-    match found {
-        Found::Bad(_) => Place::Missing,
-        Found::Got(shape) => Place::At(
-            end - shape.wire,
-            Sizes {
-                size: shape.size,
-                tc: shape.tc,
-                wire: shape.wire,
-            },
-        ),
-    }
+    place_at(payload, end)
 }
 
 // The row's augmentation as a part of the payload; the empty part at its start where there is none.

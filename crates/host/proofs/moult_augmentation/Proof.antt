@@ -1,12 +1,16 @@
 use native.Mathlib.Omega.{arith}
 use Rattle.views.proofs.Shown.{within}
+use Rattle.views.proofs.Sought.{place-end}
 use Rattle.host.proofs.Spans.{augmentation-none, augmentation-plain, augmentation-there}
 use borrow.Author.Needs.{needs}
 use Rattle.host.proofs.moult_augmentation.Statement.{statement}
 use Rattle.host.proofs.moult_augmentation.Tie as tie
 
-locate-requires : tie.Need-locate-requires
-locate-requires c κs = search needs
+end-of-requires : tie.Need-end-of-requires
+end-of-requires c κs = search needs
+
+place-at-requires : tie.Need-place-at-requires
+place-at-requires c κs = search needs
 
 enum-told : tie.Need-enum-told
 enum-told c = search needs
@@ -15,18 +19,18 @@ enum-known-place : tie.Need-enum-known-place
 enum-known-place c = search needs
 
 returns : tie.Need-returns
-returns c = augmentation-plain _ _ (c .before .before .before .before .locate .ensures) _ _ (c .before .before .place .given .1) (c .if1 .taken)
+returns c = augmentation-plain _ _ (place-end _ _ (λ i. c .before .before .before .before .before .before .shared-slice-known .given i .fits) (c .before .before .before .before .before .end-of .ensures) (c .before .before .before .before .place-at .ensures)) _ _ (c .before .before .place .given .1) (c .if1 .taken)
 
-add-t9 : tie.Need-add-t9
-add-t9 c = let w = within _ _ (λ i. c .before .before .before .before .before .before .shared-slice-known .given i .fits) _ _ (c .before .before .before .place .given .1) (c .before .before .before .before .before .locate .ensures) in omega (arith, w .end, w .body, c .before .before .before .before .before .before .before .good)
+add-t10 : tie.Need-add-t10
+add-t10 c = let w = within _ _ (λ i. c .before .before .before .before .before .before .before .shared-slice-known .given i .fits) _ _ (c .before .before .before .place .given .1) (place-end _ _ (λ i. c .before .before .before .before .before .before .before .shared-slice-known .given i .fits) (c .before .before .before .before .before .before .end-of .ensures) (c .before .before .before .before .before .place-at .ensures)) in omega (arith, w .end, w .body, c .before .before .before .before .before .before .before .before .good)
 
 returns-2 : tie.Need-returns-2
-returns-2 c = augmentation-none _ _ (c .before .before .locate .ensures) (c .enum-told .given .1)
+returns-2 c = augmentation-none _ _ (place-end _ _ (λ i. c .before .before .before .before .shared-slice-known .given i .fits) (c .before .before .before .end-of .ensures) (c .before .before .place-at .ensures)) (c .enum-told .given .1)
 
 returns-3 : tie.Need-returns-3
-returns-3 c = augmentation-there _ _ (c .before .before .before .before .before .locate .ensures) _ _ (c .before .before .before .place .given .1) (c .before .if1 .left) (within _ _ (λ i. c .before .before .before .before .before .before .shared-slice-known .given i .fits) _ _ (c .before .before .before .place .given .1) (c .before .before .before .before .before .locate .ensures))
+returns-3 c = augmentation-there _ _ (place-end _ _ (λ i. c .before .before .before .before .before .before .before .shared-slice-known .given i .fits) (c .before .before .before .before .before .before .end-of .ensures) (c .before .before .before .before .before .place-at .ensures)) _ _ (c .before .before .before .place .given .1) (c .before .if1 .left) (within _ _ (λ i. c .before .before .before .before .before .before .before .shared-slice-known .given i .fits) _ _ (c .before .before .before .place .given .1) (place-end _ _ (λ i. c .before .before .before .before .before .before .before .shared-slice-known .given i .fits) (c .before .before .before .before .before .before .end-of .ensures) (c .before .before .before .before .before .place-at .ensures)))
 
 pub moult-augmentation-spec : {M : Type 1} → statement M
 moult-augmentation-spec =
     tie.close
-    (tie.spec locate-requires enum-told enum-known-place returns add-t9 returns-2 returns-3)
+    (tie.spec end-of-requires place-at-requires enum-told enum-known-place returns add-t10 returns-2 returns-3)
