@@ -1,16 +1,15 @@
 -- Laws of decimal digits.
 use mathlib.Core.Path.{_≡_, refl, sym, ap, _∙_}
 use mathlib.Core.Logic.{_⊎_, inl, inr}
-use mathlib.Core.List.{List, [], _∷_, _++_}
+use mathlib.Core.List.{List, [], _∷_, _++_, append-assoc}
 use Prim.Native.Nat.{ℕ, zero, suc, _+_, _-_, _*_, _/_, _%_, _^_, _≤_, _<_}
 use native.Mathlib.Nat.{pow-suc}
 use native.Mathlib.Omega.{arith}
-use lib.ListN.{length, set, length-append}
+use lib.ListN.{length, set, length-append, length-set}
 use borrow.Author.Tests.{lt-ltb, le-ltb}
 use Rattle.payload.specs.Filling.{put}
-use Rattle.payload.proofs.Stored.{length-put}
 use Rattle.leb128.proofs.Steps.{below-or}
-use Rattle.listing.specs.Line.{digits, decimal}
+use Rattle.listing.specs.Line.{digits, decimal, pair}
 use Rattle.listing.proofs.Puts.{put-one, put-put}
 
 pub digits-one : (k n : ℕ) → n < 10 → digits (suc k) n ≡ (48 + n) ∷ []
@@ -47,14 +46,29 @@ pub decimal-more : (n : ℕ) → 10 ≤ n → n < 18446744073709551616 → decim
 unfolding decimal
 decimal-more n h l = digits-more 19 n h ∙ ap (λ (d : List ℕ). d ++ ((48 + n % 10) ∷ [])) (digits-enough 18 (n / 10) (omega arith))
 
--- a number's digits but the last are at most 19
-pub decimal-front : (n : ℕ) → n < 18446744073709551616 → length (decimal (n / 10)) ≤ 19
-unfolding decimal
-decimal-front n l = rw (sym (digits-enough 18 (n / 10) (omega arith))) (digits-long 19 (n / 10))
-
 pub decimal-long : (n : ℕ) → length (decimal n) ≤ 20
 unfolding decimal
 decimal-long n = digits-long 20 n
+
+-- two digits
+pub decimal-pair : (n : ℕ) → 10 ≤ n → n < 100 → pair n ≡ decimal n
+decimal-pair n h l = sym (decimal-more n h (omega arith) ∙ ap (λ (d : List ℕ). d ++ ((48 + n % 10) ∷ [])) (decimal-one (n / 10) (omega arith)))
+
+-- the last two digits
+pub decimal-pairs : (n : ℕ) → 100 ≤ n → n < 18446744073709551616 → decimal (n / 100) ++ pair (n % 100) ≡ decimal n
+decimal-pairs n h l =
+    let front : n / 10 / 10 ≡ n / 100 = omega arith in
+    let tens : n / 10 % 10 ≡ n % 100 / 10 = omega arith in
+    let ones : n % 10 ≡ n % 100 % 10 = omega arith in
+    sym
+    (decimal-more n (omega arith) l
+    ∙ ap (λ (d : List ℕ). d ++ ((48 + n % 10) ∷ [])) (decimal-more (n / 10) (omega arith) (omega arith))
+    ∙ append-assoc (decimal (n / 10 / 10)) ((48 + n / 10 % 10) ∷ []) ((48 + n % 10) ∷ [])
+    ∙ rw (front, tens, ones))
+
+-- a number's digits but the last two are at most 18
+pub decimal-front : (n : ℕ) → 100 ≤ n → n < 18446744073709551616 → length (decimal (n / 100)) ≤ 18
+decimal-front n h l = omega (arith, ap length (decimal-pairs n h l), length-append (decimal (n / 100)) (pair (n % 100)), decimal-long n)
 
 -- ---- read back
 
@@ -88,15 +102,10 @@ pub put-last : (o : List ℕ) (a n : ℕ) → n < 10 → a + 20 ≤ length o
     → (set o a (48 + n) ≡ put o a (decimal n)) × (a + 1 ≡ a + length (decimal n))
 put-last o a n h l = rw (decimal-one n h) (put-one o a (48 + n) (omega arith), refl)
 
--- what the digits but the last leave
-module _ (o : List ℕ) (a n : ℕ) (h : 10 ≤ n) (l : n < 18446744073709551616) (room : a + 20 ≤ length o) {e : List ℕ} {r : ℕ}
-    (ee : e ≡ put o a (decimal (n / 10))) (er : r ≡ a + length (decimal (n / 10))) where
-  pub put-inside : r < length e
-  put-inside = rw ee (omega (arith, decimal-front n l, length-put o a (decimal (n / 10)) (omega (arith, decimal-front n l))))
-
-  pub put-digit : (set e r (48 + n % 10) ≡ put o a (decimal n)) × (r + 1 ≡ a + length (decimal n))
-  put-digit =
-      let f : length (decimal (n / 10)) ≤ 19 = decimal-front n l in
-      let d : decimal n ≡ decimal (n / 10) ++ ((48 + n % 10) ∷ []) = decimal-more n h l in
-      let m : length (decimal n) ≡ length (decimal (n / 10)) + 1 = ap length d ∙ length-append (decimal (n / 10)) ((48 + n % 10) ∷ []) in
-      (put-one e r (48 + n % 10) put-inside ∙ rw (ee, er, d) (put-put o a (decimal (n / 10)) (omega arith) ((48 + n % 10) ∷ []) (omega arith)), omega (arith, er))
+pub put-two : (o : List ℕ) (a n : ℕ) → a + 2 ≤ length o → (set (set o a (48 + n / 10)) (a + 1) (48 + n % 10) ≡ put o a (pair n)) × (a + 2 ≡ a + length (pair n))
+put-two o a n h =
+    let first : set o a (48 + n / 10) ≡ put o a ((48 + n / 10) ∷ []) = put-one o a (48 + n / 10) (omega arith) in (
+      put-one (set o a (48 + n / 10)) (a + 1) (48 + n % 10) (simp length-set (omega arith))
+          ∙ rw first (put-put o a ((48 + n / 10) ∷ []) (omega arith) ((48 + n % 10) ∷ []) (omega arith)),
+      refl,
+    )

@@ -17,6 +17,10 @@ digits (suc k) n = cond (ltb n 10) ((48 + n) ∷ []) (digits k (n / 10) ++ ((48 
 unfoldable pub decimal : ℕ → List ℕ
 decimal n = digits 20 n
 
+-- the two digits of a number below 100
+abbrev pub pair : ℕ → List ℕ
+pair n = (48 + n / 10) ∷ (48 + n % 10) ∷ []
+
 -- ` ok `
 abbrev pub okWord : List ℕ
 okWord = 32 ∷ 111 ∷ 107 ∷ 32 ∷ []

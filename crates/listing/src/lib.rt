@@ -4,7 +4,7 @@ ghost use mathlib.Core.Path.{_≡_};
 ghost use mathlib.Core.List.{_++_};
 ghost use Prim.Native.Nat.{_+_, _≤_, _<_, min};
 ghost use lib.ListN.{length, take};
-ghost use Rattle.listing.specs.Line.{decimal, row, payloadLine, closing};
+ghost use Rattle.listing.specs.Line.{pair, decimal, row, payloadLine, closing};
 ghost use Rattle.listing.specs.Listing.{following};
 ghost use Rattle.listing.specs.Entries.{wholeAt, payloadAt};
 ghost use Rattle.listing.specs.Carried.{Puts, Goes, Lists, Closes, Ready, positionOf, placeOf, endsAt, fresh};
@@ -98,7 +98,18 @@ fn put_word(out: &mut [u8], at: usize, word: &[u8]) -> usize
     end
 }
 
-// Puts a number's decimal digits at an index of out, and answers the index behind them.
+// Puts the two digits of a number below 100 at an index of out, and answers the index behind them.
+fn put_pair(out: &mut [u8], at: usize, n: u64) -> usize
+    requires { ⌜ (at + 2 ≤ length (now out)) × (n < 100) ⌝ }
+    ensures { λ r. ⌜ Puts (now (out .entry)) at (pair n) (now (out .exit)) r ⌝ }
+{
+    out[at] = 48 + (n / 10) as u8;
+    out[at + 1] = 48 + (n % 10) as u8;
+    at + 2
+}
+
+// Puts a number's decimal digits at an index of out, and answers the index behind them. Two digits a call: of the listing's
+// time this is the larger part.
 fn put_decimal(out: &mut [u8], at: usize, n: u64) -> usize
     requires { ⌜ at + 20 ≤ length (now out) ⌝ }
     ensures { λ r. ⌜ Puts (now (out .entry)) at (decimal n) (now (out .exit)) r ⌝ }
@@ -107,9 +118,11 @@ fn put_decimal(out: &mut [u8], at: usize, n: u64) -> usize
         out[at] = 48 + n as u8;
         return at + 1;
     }
-    let end = put_decimal(out, at, n / 10);
-    out[end] = 48 + (n % 10) as u8;
-    end + 1
+    if n < 100 {
+        return put_pair(out, at, n);
+    }
+    let end = put_decimal(out, at, n / 100);
+    put_pair(out, end, n % 100)
 }
 
 fn wide(x: usize) -> u64

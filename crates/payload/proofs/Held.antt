@@ -14,7 +14,8 @@ use Rattle.wire.specs.Step.{left, barred, barredAs}
 use Rattle.wire.specs.declared.Shape.{Shape}
 use Rattle.wire.specs.declared.Found.{Found}
 use Rattle.wire.specs.declared.Found.the-variants.{Bad, Got}
-use Rattle.wire.proofs.Tables.{size-pos, tc-most, ticks-most}
+use Rattle.wire.proofs.Tables.{size-pos, tc-most}
+use Rattle.wire.proofs.Rates.{kind-ticks-most}
 use Rattle.wire.proofs.Barred.{beside-barred}
 use Rattle.wire.proofs.Complete.{next-at, stay}
 use Rattle.wire.proofs.Ended.{Whole, Wholes, last-says}
@@ -68,7 +69,7 @@ sized p u k t w = record {
   based = omega (arith, size-pos k);
   less = tc-most k t (w .tc);
   parts = refl;
-  lasts = ticks-most k;
+  lasts = kind-ticks-most k;
   plain = plain-shape k t (w .tc);
   low = low-shape k t (w .tc);
 }
@@ -162,7 +163,7 @@ module _ (p : List ℕ) (u n o d b : ℕ) (h : Held p u n o d b) (pos : 1 ≤ u)
           frames = omega (arith, h .frames);
           octets = simp length-append (omega (arith, h .octets, body, w .room));
           lasts = omega (arith, h .lasts);
-          most = omega (arith, h .most, ticks-most k);
+          most = omega (arith, h .most, kind-ticks-most k);
           bit = refl;
           few = omega (arith, h .few, size-pos k, w .room);
           short = h .short;

@@ -1,6 +1,5 @@
 -- Laws of the ticks of a rate.
 use mathlib.Core.Path.{_≡_, refl}
-use mathlib.Core.Logic.{_⊎_, inl, inr}
 use Prim.Native.Nat.{ℕ, _*_, _≤_}
 use native.Mathlib.Omega.{arith}
 use native.Mathlib.Decide.{ℕ-discrete}
@@ -45,7 +44,5 @@ ticks-of-kind bps600 = refl
 ticks-of-kind noise = refl
 ticks-of-kind tsvcis = refl
 
--- what follows either way, as of the two ways into a place where they meet
-pub either : {A B C : Type 0} → (A → C) → (B → C) → A ⊎ B → C
-either f g (inl a) = f a
-either f g (inr b) = g b
+pub kind-ticks-most : (k : Kind) → ticks k ≤ 720
+kind-ticks-most k = omega (arith, ticks-of-kind k, ticks-most (rate k))

@@ -8,7 +8,7 @@ use native.Mathlib.Omega.{arith}
 use native.Mathlib.Decide.{decLe}
 use lib.ListN.{length}
 use borrow.Author.Tests.{le-leb, lt-leb}
-use Rattle.wire.specs.Frame.{Kind, bps2400, bps1200, bps600, noise, tsvcis, LegalTc, size, top, code, ticks, isShort, countOf, wireLength}
+use Rattle.wire.specs.Frame.{Kind, bps2400, bps1200, bps600, noise, tsvcis, LegalTc, size, top, code, isShort, countOf, wireLength}
 
 -- one of two orders
 pub below-or : (a b : ℕ) → (a < b) ⊎ (b ≤ a)
@@ -33,13 +33,6 @@ size-most bps1200 = omega arith
 size-most bps600 = omega arith
 size-most noise = omega arith
 size-most tsvcis = omega arith
-
-pub ticks-most : (k : Kind) → ticks k ≤ 720
-ticks-most bps2400 = omega arith
-ticks-most bps1200 = omega arith
-ticks-most bps600 = omega arith
-ticks-most noise = omega arith
-ticks-most tsvcis = omega arith
 
 -- a base's last octet is an octet on the wire too
 pub end-most : (k : Kind) → code k + top k < 256

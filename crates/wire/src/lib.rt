@@ -46,17 +46,16 @@ fn wide(x: u8) -> usize
 pub fn ticks_of_rate(rate: u32) -> usize
     ensures { λ r. ⌜ r ≡ ticksOfRate rate ⌝ }
 {
-    let mut ticks = 0;
     if rate == 2400 {
-        ticks = 180;
+        return 180;
     }
     if rate == 1200 {
-        ticks = 540;
+        return 540;
     }
     if rate == 600 {
-        ticks = 720;
+        return 720;
     }
-    ticks
+    0
 }
 
 // ---- the shapes
