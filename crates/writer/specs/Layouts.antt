@@ -23,9 +23,13 @@ use Rattle.writer.specs.declared.BadEnd.the-variants.{At, Nowhere}
 abbrev pub layoutOf : Kind → ℕ → Layout
 layoutOf k t = record { size = size k; tc = t; count = length (countOf k t); code = code k; rate = rate k }
 
--- the same of a kind without augmentation
+-- the numbers of a frame without augmentation
+abbrev pub basedLayout : ℕ → ℕ → ℕ → Layout
+basedLayout n c r = record { size = n; tc = 0; count = 0; code = c; rate = r }
+
+-- those of a kind
 abbrev pub bare : Kind → Layout
-bare k = record { size = size k; tc = 0; count = 0; code = code k; rate = rate k }
+bare k = basedLayout (size k) (code k) (rate k)
 
 -- what a row says, as the code answers it
 abbrev pub toldOf : Ending → Told

@@ -9,7 +9,7 @@ ghost use Rattle.wire.specs.Frame.{bps2400, bps1200, bps600, noise, tsvcis, siz
 ghost use Rattle.wire.specs.Walk.{beside};
 ghost use Rattle.writer.specs.Rows.{tcOf, rowOf, rowByRow, totalOf, checkOf};
 ghost use Rattle.writer.specs.Write.{wrote, badEnd, writeOf, outOf};
-ghost use Rattle.writer.specs.Layouts.{bare, layoutOf, toldOf, foundEnd, countIn, plainIn, standIn, lookIn, lookOf, kindAt, tcAt, RowAt, FrameFits, CountFits, FramePut, PutAt};
+ghost use Rattle.writer.specs.Layouts.{basedLayout, bare, layoutOf, toldOf, foundEnd, countIn, plainIn, standIn, lookIn, lookOf, kindAt, tcAt, RowAt, FrameFits, CountFits, FramePut, PutAt};
 ghost use Rattle.writer.specs.Answers.{rowAnswerOf};
 ghost use Rattle.writer.specs.Stages.{framesIn, Agreed, Fitted, Ready, Ends};
 ghost use Rattle.writer.specs.Promise.{Checks, Writes};
@@ -75,52 +75,40 @@ fn wide(x: u16) -> usize
 }
 
 // The layouts of the kinds, each made in one place.
+fn based(size: usize, code: u8, rate: u32) -> Layout
+    ensures { λ r. ⌜ r ≡ basedLayout size code rate ⌝ }
+{
+    Layout {
+        size,
+        tc: 0,
+        count: 0,
+        code,
+        rate,
+    }
+}
+
 fn layout_2400() -> Layout
     ensures { λ r. ⌜ r ≡ bare bps2400 ⌝ }
 {
-    Layout {
-        size: 7,
-        tc: 0,
-        count: 0,
-        code: 0,
-        rate: 2400,
-    }
+    based(7, 0, 2400)
 }
 
 fn layout_1200() -> Layout
     ensures { λ r. ⌜ r ≡ bare bps1200 ⌝ }
 {
-    Layout {
-        size: 11,
-        tc: 0,
-        count: 0,
-        code: 128,
-        rate: 1200,
-    }
+    based(11, 128, 1200)
 }
 
 fn layout_600() -> Layout
     ensures { λ r. ⌜ r ≡ bare bps600 ⌝ }
 {
-    Layout {
-        size: 7,
-        tc: 0,
-        count: 0,
-        code: 64,
-        rate: 600,
-    }
+    based(7, 64, 600)
 }
 
 fn layout_noise() -> Layout
     ensures { λ r. ⌜ r ≡ bare noise ⌝ }
 {
-    Layout {
-        size: 2,
-        tc: 0,
-        count: 0,
-        code: 160,
-        rate: 0,
-    }
+    based(2, 160, 0)
 }
 
 // How many octets the count of a TSVCIS frame takes.

@@ -5,7 +5,7 @@ use crate::inputs::INPUTS;
 use std::hint::black_box;
 use std::time::{Duration, Instant};
 
-const ROUNDS: usize = 60;
+const ROUNDS: usize = 210;
 /// About how long one implementation runs in one round: short, so that many rounds are undisturbed.
 const ROUND: Duration = Duration::from_millis(1);
 
@@ -51,9 +51,10 @@ pub fn line(what: &str, mix: &str, mut work: impl FnMut(&Calls, usize) -> usize)
     let all = [calls::rattle(), calls::c(), calls::rust()];
     let passes = passes_of_a_round(&mut work, &all[0]);
     let mut best = [Duration::MAX; 3];
-    for _ in 0..ROUNDS {
-        for (calls, best) in all.iter().zip(&mut best) {
-            *best = pass(&mut work, calls, passes).min(*best);
+    for round in 0..ROUNDS {
+        for turn in 0..all.len() {
+            let which = (round + turn) % all.len();
+            best[which] = pass(&mut work, &all[which], passes).min(best[which]);
         }
     }
     let ns = best.map(|time| time.as_nanos() as f64 / (passes * INPUTS) as f64);
@@ -61,7 +62,7 @@ pub fn line(what: &str, mix: &str, mut work: impl FnMut(&Calls, usize) -> usize)
 }
 
 pub fn print_setting() {
-    println!("best of {ROUNDS} rounds, the three in turn within each; one thread");
+    println!("best of {ROUNDS} rounds, the three in turn within each, another first each time; one thread");
     println!(
         "buffers warm: {INPUTS} inputs a mix and one set of lent buffers, used again and again"
     );
