@@ -11,11 +11,11 @@ use lib.ListN.{length, getD, drop}
 use lib.Seq.{drop-cons, drop-length, drop-at}
 use lib.Dec.{eqb}
 use borrow.Author.Tests.{eq-eqb, ne-eqb, eqb-true, eqb-false, not-true}
-use Rattle.fmtp.specs.Settings.{IsRate, bps2400, bps1200, bps600, IsRates, one, two, three}
+use Rattle.fmtp.specs.Settings.{IsRate, bps2400, bps1200, bps600, IsRates, one, two, three, IsPlace}
 use Rattle.fmtp.specs.Text.{lower, comma, text2400, text1200, text600, rateText, moreText, ratesText}
 use Rattle.fmtp.specs.Reader.{startsWith, rateAt, moreAt, thirdAt, differTest, limitBehind, settle, fromRates}
 use Rattle.fmtp.proofs.Flags.{second-true, either-true}
-use Rattle.fmtp.proofs.SettingsLaws.{rate-pos}
+use Rattle.fmtp.proofs.SettingsLaws.{rate-pos, place-rate}
 use Rattle.fmtp.proofs.Words.{fold-only, starts-exact, drop-on, split-fits}
 
 -- ---- the texts
@@ -55,6 +55,20 @@ more-some r e = simp (ne-eqb r 0 e)
 
 pub more-rate : {r : ℕ} → IsRate r → moreText r ≡ comma ∷ rateText r
 more-rate {r} i = more-some r (λ e. omega (arith, rate-pos i))
+
+-- the lengths of a rate's text behind a comma
+pub more-600 : (r : ℕ) → r ≡ 600 → 4 ≡ length (moreText r)
+unfolding moreText rateText
+more-600 r e = rw e
+
+pub more-others : {r : ℕ} → IsPlace r → (r ≡ 0 → ⊥) → (r ≡ 600 → ⊥) → 5 ≡ length (moreText r)
+unfolding moreText rateText
+more-others i n x = go (place-rate i n) x
+  where
+    go : {r : ℕ} → IsRate r → (r ≡ 600 → ⊥) → 5 ≡ length (moreText r)
+    go bps2400 x = refl
+    go bps1200 x = refl
+    go bps600 x = absurd (x refl)
 
 pub more-most : (r : ℕ) → length (moreText r) ≤ 5
 more-most r = go (ℕ-discrete r 0)

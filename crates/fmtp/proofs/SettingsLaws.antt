@@ -7,7 +7,7 @@ use native.Mathlib.Omega.{arith}
 use lib.Dec.{eqb}
 use borrow.Author.Tests.{eqb-true, eqb-false, ne-eqb}
 use Rattle.fmtp.specs.declared.Settings.{Settings}
-use Rattle.fmtp.specs.Settings.{IsRate, bps2400, bps1200, bps600, IsRates, one, two, three, IsSettings, HasRate, atFirst, atSecond, atThird, Prefers, firstSecond, firstThird, secondThird, Decides, holds, fails, rateTest, thirdTest, ratesTest}
+use Rattle.fmtp.specs.Settings.{IsRate, bps2400, bps1200, bps600, IsRates, one, two, three, IsPlace, free, taken, IsSettings, HasRate, atFirst, atSecond, atThird, Prefers, firstSecond, firstThird, secondThird, Decides, holds, fails, rateTest, thirdTest, ratesTest}
 use Rattle.fmtp.proofs.Flags.{both-true, second-true, either-true}
 
 -- ---- the tests
@@ -35,6 +35,35 @@ pub rate-pos : {r : ℕ} → IsRate r → 1 ≤ r
 rate-pos bps2400 = omega arith
 rate-pos bps1200 = omega arith
 rate-pos bps600 = omega arith
+
+-- the only rate that is neither of the other two
+pub only-600 : {r : ℕ} → IsRate r → (r ≡ 2400 → ⊥) → (r ≡ 1200 → ⊥) → r ≡ 600
+only-600 bps2400 x y = absurd (x refl)
+only-600 bps1200 x y = absurd (y refl)
+only-600 bps600 x y = refl
+
+-- ---- places
+
+pub place-rate : {r : ℕ} → IsPlace r → (r ≡ 0 → ⊥) → IsRate r
+place-rate free n = absurd (n refl)
+place-rate (taken i) n = i
+
+pub rates-first : {a b c : ℕ} → IsRates a b c → IsRate a
+rates-first (one ra) = ra
+rates-first (two ra rb ab) = ra
+rates-first (three ra rb rc ab ac bc) = ra
+
+pub rates-second : {a b c : ℕ} → IsRates a b c → IsPlace b
+rates-second (one ra) = free
+rates-second (two ra rb ab) = taken rb
+rates-second (three ra rb rc ab ac bc) = taken rb
+
+pub rates-third : {a b c : ℕ} → IsRates a b c → IsPlace c
+rates-third (one ra) = free
+rates-third (two ra rb ab) = free
+rates-third (three ra rb rc ab ac bc) = taken rc
+
+-- ---- the tests of rates and settings
 
 pub rates-pass : {a b c : ℕ} → IsRates a b c → ratesTest a b c ≡ true
 unfolding ratesTest thirdTest

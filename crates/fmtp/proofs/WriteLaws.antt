@@ -32,8 +32,8 @@ text-put s p q r d =
 pub writable-settings : (s : Settings) → MayBeWritten s → IsSettings s
 writable-settings s m = m
 
-pub writable-tcmax : (s : Settings) {b : Bool} → Decides (MayBeWritten s) b → not b ≡ false → s .tcmax < 1000
-writable-tcmax s {b} d n = omega (arith, writable-settings s (decided-true d (not-false b n)) .tcmax .most)
+pub writable-known : (s : Settings) {b : Bool} → Decides (MayBeWritten s) b → not b ≡ false → IsSettings s
+writable-known s {b} d n = writable-settings s (decided-true d (not-false b n))
 
 module _ (s : Settings) (before : List ℕ) {r : Written} where
   pub write-wrong : {b : Bool} → Decides (MayBeWritten s) b → not b ≡ true → r ≡ failing wrongSettings 0 → Writes s before r before

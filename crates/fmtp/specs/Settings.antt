@@ -17,6 +17,11 @@ pub data IsRates : ℕ → ℕ → ℕ → Type 0 where
   two : {a b : ℕ} → IsRate a → IsRate b → (a ≡ b → ⊥) → IsRates a b 0
   three : {a b c : ℕ} → IsRate a → IsRate b → IsRate c → (a ≡ b → ⊥) → (a ≡ c → ⊥) → (b ≡ c → ⊥) → IsRates a b c
 
+-- Document 01, "The setting text": a place of settings, which holds a rate or is unused, "unused places 0".
+pub data IsPlace : ℕ → Type 0 where
+  free : IsPlace 0
+  taken : {r : ℕ} → IsRate r → IsPlace r
+
 -- Document 01, "The setting text": tcmax is 1 to 255.
 pub record IsTcmax (n : ℕ) : Type 0 where
   pub least : 1 ≤ n

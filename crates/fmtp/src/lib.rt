@@ -6,7 +6,7 @@ ghost use mathlib.Core.List.{map};
 ghost use Prim.Native.Nat.{_+_, _≤_, _<_};
 ghost use lib.Dec.{eqb};
 ghost use lib.ListN.{length, drop};
-ghost use Rattle.fmtp.specs.Settings.{Decides, IsSettings, rateTest, thirdTest, ratesTest};
+ghost use Rattle.fmtp.specs.Settings.{Decides, IsRate, IsRates, IsPlace, IsSettings, rateTest, thirdTest, ratesTest};
 ghost use Rattle.fmtp.specs.Text.{lower, rateText, moreText, ratesText, decimal, settingsOf};
 ghost use Rattle.fmtp.specs.Reader.{startsWith, rateAt, moreAt, thirdAt, differTest, digit, numberAt, lastNumber, orMissing, limitBehind, fromRates, limitBefore, limitAlone, behindLimit, wrongText, Reads};
 ghost use Rattle.fmtp.specs.Writer.{textOf, MayBeWritten, failing, Put, Writes};
@@ -430,7 +430,7 @@ fn put(out: &mut [u8], at: usize, word: &[u8]) -> usize
 }
 
 fn put_rate(out: &mut [u8], at: usize, rate: u16) -> usize
-    requires { ⌜ at + length (rateText rate) ≤ length (now out) ⌝ }
+    requires { ⌜ (at + length (rateText rate) ≤ length (now out)) × IsRate rate ⌝ }
     ensures { λ r. ⌜ Put (now (out .entry)) at (rateText rate) r (now (out .exit)) ⌝ }
 {
     if rate == 2400 {
@@ -439,15 +439,12 @@ fn put_rate(out: &mut [u8], at: usize, rate: u16) -> usize
     if rate == 1200 {
         return put(out, at, b"1200");
     }
-    if rate == 600 {
-        return put(out, at, b"600");
-    }
-    at
+    put(out, at, b"600")
 }
 
 // A further rate, behind a comma; nothing for an unused place.
 fn put_more(out: &mut [u8], at: usize, rate: u16) -> usize
-    requires { ⌜ at + length (moreText rate) ≤ length (now out) ⌝ }
+    requires { ⌜ (at + length (moreText rate) ≤ length (now out)) × IsPlace rate ⌝ }
     ensures { λ r. ⌜ Put (now (out .entry)) at (moreText rate) r (now (out .exit)) ⌝ }
 {
     if rate == 0 {
@@ -458,7 +455,7 @@ fn put_more(out: &mut [u8], at: usize, rate: u16) -> usize
 }
 
 fn put_rates(out: &mut [u8], at: usize, a: u16, b: u16, c: u16) -> usize
-    requires { ⌜ at + length (ratesText a b c) ≤ length (now out) ⌝ }
+    requires { ⌜ (at + length (ratesText a b c) ≤ length (now out)) × IsRates a b c ⌝ }
     ensures { λ r. ⌜ Put (now (out .entry)) at (ratesText a b c) r (now (out .exit)) ⌝ }
 {
     let second = put_rate(out, at, a);
@@ -486,7 +483,7 @@ fn put_number(out: &mut [u8], at: usize, n: u16) -> usize
 }
 
 fn put_settings(s: Settings, out: &mut [u8]) -> usize
-    requires { ⌜ (length (textOf s) ≤ length (now out)) × (s .tcmax < 1000) ⌝ }
+    requires { ⌜ (length (textOf s) ≤ length (now out)) × IsSettings s ⌝ }
     ensures { λ r. ⌜ Put (now (out .entry)) 0 (textOf s) r (now (out .exit)) ⌝ }
 {
     let rates_at = put(out, 0, b"bitrate=");
@@ -495,11 +492,27 @@ fn put_settings(s: Settings, out: &mut [u8]) -> usize
     put_number(out, number_at, s.tcmax)
 }
 
+// The octets of a place's text behind a comma: `more_len`, where it is known that the place is unused or holds a rate.
+fn place_len(rate: u16) -> usize
+    requires { ⌜ IsPlace rate ⌝ }
+    ensures { λ r. ⌜ r ≡ length (moreText rate) ⌝ }
+{
+    if rate == 0 {
+        return 0;
+    }
+    if rate == 600 {
+        return 4;
+    }
+    5
+}
+
+// The octets of the settings' text. Its first rate stands behind `=` as the others behind a comma.
 fn text_len(s: Settings) -> usize
+    requires { ⌜ IsSettings s ⌝ }
     ensures { λ r. ⌜ r ≡ length (textOf s) ⌝ }
 {
-    let rates = rate_len(s.first) + more_len(s.second) + more_len(s.third);
-    15 + rates + number_len(s.tcmax)
+    let rates = place_len(s.first) + place_len(s.second) + place_len(s.third);
+    14 + rates + number_len(s.tcmax)
 }
 
 // Whether the writer takes these settings.

@@ -22,7 +22,7 @@ const MOST_OCTETS: usize = 1400;
 pub struct Extent {
     pub frames: usize,
     pub octets: usize,
-    pub ticks: usize,
+    pub ticks: u32,
 }
 
 // An empty payload is whole and holds no frames; a refused one is the other case.
@@ -51,7 +51,7 @@ pub fn walk(payload: &[u8]) -> Walked
     let mut unread = payload.len();
     let mut frames: usize = 0;
     let mut octets = payload.len();
-    let mut ticks: usize = 0;
+    let mut ticks: u32 = 0;
     let mut behind: u8 = 0;
     while 0 < unread {
         let found = wire::step(&payload[..unread], behind);

@@ -353,7 +353,7 @@ fn say_walk(payload: &[u8]) {
         Walked::Whole(extent) => {
             say_number(extent.frames);
             say_number(extent.octets);
-            say_number(extent.ticks);
+            say_number(extent.ticks as usize);
         }
     }
 }

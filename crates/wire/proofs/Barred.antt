@@ -5,7 +5,7 @@ use mathlib.Core.Bool.{Bool, true, false, cond}
 use mathlib.Core.List.{List, [], _∷_}
 use Prim.Native.Nat.{ℕ, suc, _≤_, _<_}
 use native.Mathlib.Omega.{arith}
-use lib.Bits.{bitAnd}
+use lib.Bits.{bitAnd, bitXor}
 use lib.Dec.{ltb, eqb}
 use lib.ListN.{length}
 use borrow.Author.Tests.{ne-eqb, eq-eqb, lt-ltb}
@@ -23,17 +23,17 @@ use Rattle.wire.proofs.Shapes.{Shaped, last-bad, bad-is}
 -- ---- the code's test, case by case
 
 module _ (b : ℕ) (x : Shape) where
-  pub bar-none : bitAnd b (x .bars) ≡ 0 → Got x ≡ barShape b x
+  pub bar-none : bitAnd b (bitXor (x .leaves) 7) ≡ 0 → Got x ≡ barShape b x
   unfolding barShape
-  bar-none z = simp (eq-eqb (bitAnd b (x .bars)) 0 z)
+  bar-none z = simp (eq-eqb (bitAnd b (bitXor (x .leaves) 7)) 0 z)
 
-  pub bar-noise : (bitAnd b (x .bars) ≡ 0 → ⊥) → x .wire ≡ 2 → Bad 6 ≡ barShape b x
+  pub bar-noise : (bitAnd b (bitXor (x .leaves) 7) ≡ 0 → ⊥) → x .wire ≡ 2 → Bad 6 ≡ barShape b x
   unfolding barShape
-  bar-noise z q = simp (ne-eqb (bitAnd b (x .bars)) 0 z, eq-eqb (x .wire) 2 q)
+  bar-noise z q = simp (ne-eqb (bitAnd b (bitXor (x .leaves) 7)) 0 z, eq-eqb (x .wire) 2 q)
 
-  pub bar-coder : (bitAnd b (x .bars) ≡ 0 → ⊥) → (x .wire ≡ 2 → ⊥) → Bad 8 ≡ barShape b x
+  pub bar-coder : (bitAnd b (bitXor (x .leaves) 7) ≡ 0 → ⊥) → (x .wire ≡ 2 → ⊥) → Bad 8 ≡ barShape b x
   unfolding barShape
-  bar-coder z q = simp (ne-eqb (bitAnd b (x .bars)) 0 z, ne-eqb (x .wire) 2 q)
+  bar-coder z q = simp (ne-eqb (bitAnd b (bitXor (x .leaves) 7)) 0 z, ne-eqb (x .wire) 2 q)
 
 -- ---- the step
 
@@ -46,13 +46,21 @@ two-octets bps600 t l = simp l
 two-octets noise t l = simp l
 two-octets tsvcis t l = simp (ne-eqb (wireLength tsvcis t) 2 (λ q. omega arith))
 
+-- the bits that bar a frame, from its own
+bar-bits : (k : Kind) → bitXor (leaves k) 7 ≡ bars k
+bar-bits bps2400 = refl
+bar-bits bps1200 = refl
+bar-bits bps600 = refl
+bar-bits noise = refl
+bar-bits tsvcis = refl
+
 pick : (k : Kind) (t n : ℕ) (a : Bool) → cond a (Got (shapeOf k t)) (Bad n) ≡ foundOf (cond a (got k t) (bad n))
 pick k t n true = refl
 pick k t n false = refl
 
 bar-shape : (b : ℕ) (k : Kind) (t : ℕ) → LegalTc k t → barShape b (shapeOf k t) ≡ foundOf (barred b (got k t))
 unfolding barShape barred
-bar-shape b k t l = simp (two-octets k t l) (pick k t (barredAs k) (eqb (bitAnd b (bars k)) 0))
+bar-shape b k t l = simp (two-octets k t l, bar-bits k) (pick k t (barredAs k) (eqb (bitAnd b (bars k)) 0))
 
 pub step-bad : (b n : ℕ) (e : Ending) → e ≡ bad n → Bad n ≡ foundOf (barred b e)
 unfolding barred

@@ -3,7 +3,7 @@ use mathlib.Core.Path.{_≡_}
 use mathlib.Core.Bool.{cond}
 use Prim.Native.Nat.{ℕ, _+_, _-_, _≤_, _<_}
 use mathlib.Core.List.{List, [], _∷_}
-use lib.Bits.{bitAnd}
+use lib.Bits.{bitAnd, bitXor}
 use lib.Dec.{ltb, eqb}
 use lib.ListN.{length, getD}
 use Rattle.refusal.specs.Numbers.{cutFrame, noiseNotLast, notBehind2400, mixedRates}
@@ -14,8 +14,8 @@ use Rattle.wire.specs.declared.Found.{Found}
 use Rattle.wire.specs.declared.Found.the-variants.{Bad, Got}
 
 -- the numbers of a frame whose base is all of it
-abbrev pub plainShape : ℕ → ℕ → ℕ → ℕ → ℕ → ℕ → Shape
-plainShape n k c l b d = record { kind = n; tc = 0; size = k; code = c; leaves = l; bars = b; ticks = d; wire = k; count = 0 }
+abbrev pub plainShape : ℕ → ℕ → ℕ → ℕ → ℕ → Shape
+plainShape n k c l d = record { kind = n; tc = 0; size = k; code = c; leaves = l; ticks = d; wire = k; count = 0 }
 
 -- a frame of these numbers with augmentation, if u unread octets hold it whole and it stands behind a 2400 bps frame
 unfoldable pub basedShape : List ℕ → ℕ → Shape → Found
@@ -34,9 +34,10 @@ fitted u (Got x) = fitShape u x
 pub record ByKind (p : List ℕ) (u : ℕ) (r : Found) : Type 0 where
   pub whole : fitted u r ≡ foundOf (lastFrame p u)
 
--- a frame of these numbers, if none of its bars is among the bits b behind it; only comfort noise has two octets
+-- a frame of these numbers, if none of the bits that bar it is among the bits b behind it: its own bit, and of the rates
+-- all others; only comfort noise has two octets
 unfoldable pub barShape : ℕ → Shape → Found
-barShape b x = cond (eqb (bitAnd b (x .bars)) 0) (Got x) (cond (eqb (x .wire) 2) (Bad noiseNotLast) (Bad mixedRates))
+barShape b x = cond (eqb (bitAnd b (bitXor (x .leaves) 7)) 0) (Got x) (cond (eqb (x .wire) 2) (Bad noiseNotLast) (Bad mixedRates))
 
 -- the bit that the frames read leave for those before them: that of the last one read; none where nothing is read
 abbrev pub left : List Frame → ℕ

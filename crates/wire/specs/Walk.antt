@@ -133,7 +133,6 @@ shapeOf k t = record {
   size = size k;
   code = code k;
   leaves = leaves k;
-  bars = bars k;
   ticks = ticks k;
   wire = wireLength k t;
   count = length (countOf k t);

@@ -15,17 +15,19 @@ pub const PLAIN_600: u16 = 3;
 // The octets of comfort noise; no other frame is as short.
 const NOISE_OCTETS: usize = 2;
 
+// The bits of the rates in `leaves`.
+const RATES: u8 = 7;
+
 // A frame's numbers: kind and TC as in a row, octets of its base, rate code bits, the bit that it leaves for the frames
-// before it and the bits that bar it, ticks, octets on the wire and the octets of its count among them. Bits say what was
-// read behind a frame: 1, 2 and 4 a coder frame of 2400, 600 and 1200 bps, 8 comfort noise.
+// before it, ticks, octets on the wire and the octets of its count among them. The bit says what was read behind a frame:
+// 1, 2 and 4 a coder frame of 2400, 600 and 1200 bps, 8 comfort noise.
 pub struct Shape {
     pub kind: u16,
     pub tc: usize,
     pub size: usize,
     pub code: u8,
     pub leaves: u8,
-    pub bars: u8,
-    pub ticks: usize,
+    pub ticks: u32,
     pub wire: usize,
     pub count: usize,
 }
@@ -61,8 +63,8 @@ pub fn ticks_of_rate(rate: u32) -> usize
 // ---- the shapes
 
 // A kind without augmentation, whose base is all that stands on the wire.
-fn plain(kind: u16, size: usize, code: u8, leaves: u8, bars: u8, ticks: usize) -> Shape
-    ensures { λ r. ⌜ r ≡ plainShape kind size code leaves bars ticks ⌝ }
+fn plain(kind: u16, size: usize, code: u8, leaves: u8, ticks: u32) -> Shape
+    ensures { λ r. ⌜ r ≡ plainShape kind size code leaves ticks ⌝ }
 {
     Shape {
         kind,
@@ -70,7 +72,6 @@ fn plain(kind: u16, size: usize, code: u8, leaves: u8, bars: u8, ticks: usize) -
         size,
         code,
         leaves,
-        bars,
         ticks,
         wire: size,
         count: 0,
@@ -80,25 +81,25 @@ fn plain(kind: u16, size: usize, code: u8, leaves: u8, bars: u8, ticks: usize) -
 fn shape_2400() -> Shape
     ensures { λ r. ⌜ r ≡ shapeOf bps2400 0 ⌝ }
 {
-    plain(PLAIN_2400, 7, 0, 1, 6, 180)
+    plain(PLAIN_2400, 7, 0, 1, 180)
 }
 
 fn shape_1200() -> Shape
     ensures { λ r. ⌜ r ≡ shapeOf bps1200 0 ⌝ }
 {
-    plain(2, 11, 128, 4, 3, 540)
+    plain(2, 11, 128, 4, 540)
 }
 
 pub fn shape_600() -> Shape
     ensures { λ r. ⌜ r ≡ shapeOf bps600 0 ⌝ }
 {
-    plain(PLAIN_600, 7, 64, 2, 5, 720)
+    plain(PLAIN_600, 7, 64, 2, 720)
 }
 
 fn shape_noise() -> Shape
     ensures { λ r. ⌜ r ≡ shapeOf noise 0 ⌝ }
 {
-    plain(4, NOISE_OCTETS, 160, 8, 15, 0)
+    plain(4, NOISE_OCTETS, 160, 8, 0)
 }
 
 // A TSVCIS frame of this TC, whose count takes `count` octets.
@@ -112,7 +113,6 @@ fn shape_tsvcis(tc: usize, count: usize) -> Shape
         size: 7,
         code: 0,
         leaves: 1,
-        bars: 6,
         ticks: 180,
         wire: 7 + tc + count,
         count,
@@ -140,13 +140,11 @@ fn long_count(tc: usize) -> Found
     requires { ⌜ tc < 256 ⌝ }
     ensures { λ r. ⌜ r ≡ foundOf (counted tc) ⌝ }
 {
-    if tc == 0 {
-        return Found::Bad(refusal::ZERO_COUNT);
-    }
     if tc < 15 {
-        return Found::Got(shape_tsvcis(tc, 2));
-    }
-    if tc <= 77 {
+        if tc == 0 {
+            return Found::Bad(refusal::ZERO_COUNT);
+        }
+    } else if tc <= 77 {
         return Found::Bad(refusal::LONG_COUNT);
     }
     Found::Got(shape_tsvcis(tc, 2))
@@ -261,11 +259,11 @@ fn last_frame(unread: &[u8]) -> Found
     }
 }
 
-// A frame beside what was read behind it.
+// A frame beside what was read behind it: the other rates bar a coder frame, all bits bar comfort noise.
 fn beside(shape: Shape, behind: u8) -> Found
     ensures { λ r. ⌜ r ≡ barShape behind shape ⌝ }
 {
-    if behind & shape.bars == 0 {
+    if behind & (shape.leaves ^ RATES) == 0 {
         return Found::Got(shape);
     }
     if shape.wire == NOISE_OCTETS {

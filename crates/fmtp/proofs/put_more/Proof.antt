@@ -4,6 +4,7 @@ use Rattle.fmtp.proofs.put_more.Tie as tie
 use mathlib.Core.Path.{ap, _∙_}
 use lib.ListN.{length, length-set}
 use native.Mathlib.Omega.{arith}
+use Rattle.fmtp.proofs.SettingsLaws.{place-rate}
 use Rattle.fmtp.proofs.RateLaws.{more-none, more-some}
 use Rattle.fmtp.proofs.Stores.{put-as, put-nothing, put-cons, put-long}
 
@@ -17,7 +18,7 @@ add-put-rate : tie.Need-add-put-rate
 add-put-rate c = search needs
 
 put-rate-requires : tie.Need-put-rate-requires
-put-rate-requires c κs = simp length-set (omega (arith, ap length (more-some (c .before .before .before .args .rate) (c .before .if1 .left))))
+put-rate-requires c κs = (simp length-set (omega (arith, ap length (more-some (c .before .before .before .args .rate) (c .before .if1 .left)))), place-rate (c .before .before .before .pre .1) (c .before .if1 .left))
 
 same-length : tie.Need-same-length
 same-length c = put-long (c .before .before .put-rate .ensures) ∙ simp length-set

@@ -1,11 +1,16 @@
 use borrow.Author.Needs.{needs}
 use Rattle.fmtp.proofs.put_rate.Statement.{statement}
 use Rattle.fmtp.proofs.put_rate.Tie as tie
-use mathlib.Core.Path.{ap}
+use mathlib.Core.Path.{_≡_, ap}
 use lib.ListN.{length}
 use native.Mathlib.Omega.{arith}
-use Rattle.fmtp.proofs.RateLaws.{text-2400, text-1200, text-600, text-none}
-use Rattle.fmtp.proofs.Stores.{put-as, put-nothing}
+use Rattle.fmtp.proofs.SettingsLaws.{only-600}
+use Rattle.fmtp.proofs.RateLaws.{text-2400, text-1200, text-600}
+use Rattle.fmtp.proofs.Stores.{put-as}
+
+-- what is neither of the other rates
+last : (c : tie.Else2) → c .before .before .before .args .rate ≡ 600
+last c = only-600 (c .before .before .before .pre .1) (c .before .if1 .left) (c .if2 .left)
 
 slice-aggregate-put : tie.Need-slice-aggregate-put
 slice-aggregate-put c = search needs
@@ -35,16 +40,13 @@ slice-aggregate-put-3 : tie.Need-slice-aggregate-put-3
 slice-aggregate-put-3 c = search needs
 
 put-requires-3 : tie.Need-put-requires-3
-put-requires-3 c κs = omega (arith, ap length (text-600 (c .before .before .before .before .before .before .args .rate) (c .before .before .if3 .taken)))
+put-requires-3 c κs = omega (arith, ap length (text-600 _ (last (c .before .before))))
 
 same-length-3 : tie.Need-same-length-3
 same-length-3 c = search needs
 
 returns-3 : tie.Need-returns-3
-returns-3 c = put-as (text-600 _ (c .before .before .before .before .before .if3 .taken)) (c .before .before .put3 .ensures)
-
-returns-4 : tie.Need-returns-4
-returns-4 c = put-as (text-none _ (c .before .before .if1 .left) (c .before .if2 .left) (c .if3 .left)) (put-nothing _ _)
+returns-3 c = put-as (text-600 _ (last (c .before .before .before .before .before))) (c .before .before .put3 .ensures)
 
 pub put-rate-spec : {M : Type 1} → statement M
 put-rate-spec =
@@ -61,5 +63,4 @@ put-rate-spec =
     slice-aggregate-put-3
     put-requires-3
     same-length-3
-    returns-3
-    returns-4)
+    returns-3)

@@ -4,17 +4,18 @@ use Rattle.fmtp.proofs.put_rates.Tie as tie
 use native.Mathlib.Omega.{arith}
 use Rattle.fmtp.specs.Text.{rateText, moreText}
 use mathlib.Core.List.{_++_}
+use Rattle.fmtp.proofs.SettingsLaws.{rates-first, rates-second, rates-third}
 use Rattle.fmtp.proofs.TextLaws.{rates-length}
 use Rattle.fmtp.proofs.Stores.{put-both, put-long}
 
 put-rate-requires : tie.Need-put-rate-requires
-put-rate-requires c κs = omega (arith, rates-length (c .before .before .args .a) (c .before .before .args .b) (c .before .before .args .c))
+put-rate-requires c κs = (omega (arith, rates-length (c .before .before .args .a) (c .before .before .args .b) (c .before .before .args .c)), rates-first (c .before .before .pre .1))
 
 put-more-requires : tie.Need-put-more-requires
-put-more-requires c κs = omega (arith, rates-length (c .before .before .before .before .before .before .args .a) (c .before .before .before .before .before .before .args .b) (c .before .before .before .before .before .before .args .c), c .before .before .before .put-rate .ensures .end, put-long (c .before .before .before .put-rate .ensures))
+put-more-requires c κs = (omega (arith, rates-length (c .before .before .before .before .before .before .args .a) (c .before .before .before .before .before .before .args .b) (c .before .before .before .before .before .before .args .c), c .before .before .before .put-rate .ensures .end, put-long (c .before .before .before .put-rate .ensures)), rates-second (c .before .before .before .before .before .before .pre .1))
 
 put-more-requires-2 : tie.Need-put-more-requires-2
-put-more-requires-2 c κs = omega (arith, rates-length (c .before .before .before .before .before .before .before .before .before .before .args .a) (c .before .before .before .before .before .before .before .before .before .before .args .b) (c .before .before .before .before .before .before .before .before .before .before .args .c), c .before .before .before .before .before .before .before .put-rate .ensures .end, put-long (c .before .before .before .before .before .before .before .put-rate .ensures), c .before .before .before .put-more .ensures .end, put-long (c .before .before .before .put-more .ensures))
+put-more-requires-2 c κs = (omega (arith, rates-length (c .before .before .before .before .before .before .before .before .before .before .args .a) (c .before .before .before .before .before .before .before .before .before .before .args .b) (c .before .before .before .before .before .before .before .before .before .before .args .c), c .before .before .before .before .before .before .before .put-rate .ensures .end, put-long (c .before .before .before .before .before .before .before .put-rate .ensures), c .before .before .before .put-more .ensures .end, put-long (c .before .before .before .put-more .ensures)), rates-third (c .before .before .before .before .before .before .before .before .before .before .pre .1))
 
 same-length : tie.Need-same-length
 same-length c = search needs

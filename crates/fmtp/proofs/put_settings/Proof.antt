@@ -13,7 +13,7 @@ put-requires : tie.Need-put-requires
 put-requires c κs = omega (arith, text-length (c .before .before .before .args .s))
 
 put-rates-requires : tie.Need-put-rates-requires
-put-rates-requires c κs = omega (arith, text-length (c .before .before .before .before .before .before .before .args .s), rates-length (c .before .before .before .before .before .before .before .args .s .first) (c .before .before .before .before .before .before .before .args .s .second) (c .before .before .before .before .before .before .before .args .s .third), c .before .before .before .put .ensures .end, put-long (c .before .before .before .put .ensures))
+put-rates-requires c κs = (omega (arith, text-length (c .before .before .before .before .before .before .before .args .s), rates-length (c .before .before .before .before .before .before .before .args .s .first) (c .before .before .before .before .before .before .before .args .s .second) (c .before .before .before .before .before .before .before .args .s .third), c .before .before .before .put .ensures .end, put-long (c .before .before .before .put .ensures)), c .before .before .before .before .before .before .before .pre .1 .rates)
 
 slice-aggregate-put-2 : tie.Need-slice-aggregate-put-2
 slice-aggregate-put-2 c = search needs
@@ -22,7 +22,7 @@ put-requires-2 : tie.Need-put-requires-2
 put-requires-2 c κs = omega (arith, text-length (c .before .before .before .before .before .before .before .before .before .before .before .before .args .s), rates-length (c .before .before .before .before .before .before .before .before .before .before .before .before .args .s .first) (c .before .before .before .before .before .before .before .before .before .before .before .before .args .s .second) (c .before .before .before .before .before .before .before .before .before .before .before .before .args .s .third), c .before .before .before .before .before .before .before .before .put .ensures .end, put-long (c .before .before .before .before .before .before .before .before .put .ensures), c .before .before .before .before .put-rates .ensures .end, put-long (c .before .before .before .before .put-rates .ensures))
 
 put-number-requires : tie.Need-put-number-requires
-put-number-requires c κs = omega (arith, text-length (c .before .before .before .before .before .before .before .before .before .before .before .before .before .before .before .before .args .s), rates-length (c .before .before .before .before .before .before .before .before .before .before .before .before .before .before .before .before .args .s .first) (c .before .before .before .before .before .before .before .before .before .before .before .before .before .before .before .before .args .s .second) (c .before .before .before .before .before .before .before .before .before .before .before .before .before .before .before .before .args .s .third), c .before .before .before .before .before .before .before .before .before .before .before .before .put .ensures .end, put-long (c .before .before .before .before .before .before .before .before .before .before .before .before .put .ensures), c .before .before .before .before .before .before .before .before .put-rates .ensures .end, put-long (c .before .before .before .before .before .before .before .before .put-rates .ensures), c .before .before .before .put2 .ensures .end, put-long (c .before .before .before .put2 .ensures), c .before .before .before .before .before .before .before .before .before .before .before .before .before .before .before .before .pre)
+put-number-requires c κs = omega (arith, text-length (c .before .before .before .before .before .before .before .before .before .before .before .before .before .before .before .before .args .s), rates-length (c .before .before .before .before .before .before .before .before .before .before .before .before .before .before .before .before .args .s .first) (c .before .before .before .before .before .before .before .before .before .before .before .before .before .before .before .before .args .s .second) (c .before .before .before .before .before .before .before .before .before .before .before .before .before .before .before .before .args .s .third), c .before .before .before .before .before .before .before .before .before .before .before .before .put .ensures .end, put-long (c .before .before .before .before .before .before .before .before .before .before .before .before .put .ensures), c .before .before .before .before .before .before .before .before .put-rates .ensures .end, put-long (c .before .before .before .before .before .before .before .before .put-rates .ensures), c .before .before .before .put2 .ensures .end, put-long (c .before .before .before .put2 .ensures), c .before .before .before .before .before .before .before .before .before .before .before .before .before .before .before .before .pre .1 .tcmax .most)
 
 same-length : tie.Need-same-length
 same-length c = search needs

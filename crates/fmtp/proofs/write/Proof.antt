@@ -3,7 +3,7 @@ use Rattle.fmtp.proofs.write.Statement.{statement}
 use Rattle.fmtp.proofs.write.Tie as tie
 use native.Mathlib.Omega.{arith}
 use mathlib.Core.Path.{refl}
-use Rattle.fmtp.proofs.WriteLaws.{write-wrong, write-short, write-whole, writable-tcmax}
+use Rattle.fmtp.proofs.WriteLaws.{write-wrong, write-short, write-whole, writable-known}
 
 may-be-written-requires : tie.Need-may-be-written-requires
 may-be-written-requires c κs = search needs
@@ -15,7 +15,7 @@ returns : tie.Need-returns
 returns c = write-wrong _ _ (c .before .before .may-be-written .ensures) (c .before .if1 .taken) (c .fail .ensures)
 
 text-len-requires : tie.Need-text-len-requires
-text-len-requires c κs = search needs
+text-len-requires c κs = writable-known _ (c .before .may-be-written .ensures) (c .if1 .left)
 
 fail-requires-2 : tie.Need-fail-requires-2
 fail-requires-2 c κs = search needs
@@ -24,7 +24,7 @@ returns-2 : tie.Need-returns-2
 returns-2 c = write-short _ _ (c .before .before .before .before .may-be-written .ensures) (c .before .before .before .if1 .left) (c .before .before .text-len .ensures) (c .before .if2 .taken) (c .fail2 .ensures)
 
 put-settings-requires : tie.Need-put-settings-requires
-put-settings-requires c κs = omega (arith, c .before .before .text-len .ensures, c .before .if2 .left, writable-tcmax (c .before .before .before .before .before .before .args .settings) (c .before .before .before .before .may-be-written .ensures) (c .before .before .before .if1 .left))
+put-settings-requires c κs = (omega (arith, c .before .before .text-len .ensures, c .before .if2 .left), writable-known _ (c .before .before .before .before .may-be-written .ensures) (c .before .before .before .if1 .left))
 
 same-length : tie.Need-same-length
 same-length c = search needs

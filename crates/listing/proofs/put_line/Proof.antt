@@ -16,8 +16,8 @@ slice-aggregate-put-row c = search needs
 wide-requires : tie.Need-wide-requires
 wide-requires c κs = search needs
 
-wide-requires-2 : tie.Need-wide-requires-2
-wide-requires-2 c κs = search needs
+cast-put-row : tie.Need-cast-put-row
+cast-put-row c = search needs
 
 put-row-requires : tie.Need-put-row-requires
 put-row-requires c κs = search needs
@@ -28,11 +28,11 @@ enum-known-walked-2 c = search needs
 slice-aggregate-put-row-2 : tie.Need-slice-aggregate-put-row-2
 slice-aggregate-put-row-2 c = search needs
 
-cast-put-row : tie.Need-cast-put-row
-cast-put-row c = search needs
+cast-put-row-2 : tie.Need-cast-put-row-2
+cast-put-row-2 c = search needs
 
-wide-requires-3 : tie.Need-wide-requires-3
-wide-requires-3 c κs = search needs
+wide-requires-2 : tie.Need-wide-requires-2
+wide-requires-2 c κs = search needs
 
 put-row-requires-2 : tie.Need-put-row-requires-2
 put-row-requires-2 c κs = search needs
@@ -41,13 +41,13 @@ same-length : tie.Need-same-length
 same-length c = search needs
 
 returns : tie.Need-returns
-returns c = let z = c .before .before .before .before .before .before .before .before .before .before .before .before .before in line-whole (z .args .out .now) (z .args .at) (z .args .n) (z .args .payload .now) (c .before .before .before .before .before .before .before .before .before .before .walk .ensures .answer) _ (c .before .before .before .before .before .before .before .before .walked .given .1) (c .before .before .before .before .wide .ensures) (c .before .before .before .wide2 .ensures) (c .before .before .put-row .ensures)
+returns c = let z = c .before .before .before .before .before .before .before .before .before .before .before .before .before in line-whole (z .args .out .now) (z .args .at) (z .args .n) (z .args .payload .now) (c .before .before .before .before .before .before .before .before .before .before .walk .ensures .answer) _ (c .before .before .before .before .before .before .before .before .walked .given .1) (c .before .before .before .before .wide .ensures) refl (c .before .before .put-row .ensures)
 
 same-length-2 : tie.Need-same-length-2
 same-length-2 c = search needs
 
 returns-2 : tie.Need-returns-2
-returns-2 c = let z = c .before .before .before .before .before .before .before .before .before .before .before .before .before in line-refused (z .args .out .now) (z .args .at) (z .args .n) (z .args .payload .now) (c .before .before .before .before .before .before .before .before .before .before .walk .ensures .answer) _ (c .before .before .before .before .before .before .before .before .walked2 .given .1) refl (c .before .before .before .wide3 .ensures) (c .before .before .put-row2 .ensures)
+returns-2 c = let z = c .before .before .before .before .before .before .before .before .before .before .before .before .before in line-refused (z .args .out .now) (z .args .at) (z .args .n) (z .args .payload .now) (c .before .before .before .before .before .before .before .before .before .before .walk .ensures .answer) _ (c .before .before .before .before .before .before .before .before .walked2 .given .1) refl (c .before .before .before .wide2 .ensures) (c .before .before .put-row2 .ensures)
 
 pub put-line-spec : {M : Type 1} → statement M
 put-line-spec =
@@ -57,12 +57,12 @@ put-line-spec =
     enum-known-walked
     slice-aggregate-put-row
     wide-requires
-    wide-requires-2
+    cast-put-row
     put-row-requires
     enum-known-walked-2
     slice-aggregate-put-row-2
-    cast-put-row
-    wide-requires-3
+    cast-put-row-2
+    wide-requires-2
     put-row-requires-2
     same-length
     returns
