@@ -8,7 +8,7 @@ use lib.Bits.{bitAnd}
 use lib.Dec.{eqb}
 use lib.ListN.{length, take, length-append, length-set}
 use borrow.Author.Tests.{lt-ltb, le-ltb}
-use Rattle.wire.specs.Frame.{Frame, Kind, bps2400, bps1200, bps600, noise, tsvcis, LegalTc, Octets, number, size, ticks, countOf, wireLength, bodiesOf, ticksOf}
+use Rattle.wire.specs.Frame.{Frame, Kind, bps2400, bps1200, bps600, noise, tsvcis, LegalTc, Octets, number, size, ticks, wireLength, bodiesOf, ticksOf}
 use Rattle.wire.specs.Walk.{Ending, bad, got, lastFrame, leaves, bars, turn, next, frameAt, run, readOf, Walk, at, refused, shapeOf, foundOf}
 use Rattle.wire.specs.Step.{left, barred, barredAs}
 use Rattle.wire.specs.declared.Shape.{Shape}
@@ -42,7 +42,7 @@ pub record Sized (u : ℕ) (x : Shape) : Type 0 where
   pub body : x .size + x .tc ≤ x .wire
   pub based : 1 ≤ x .size
   pub less : x .tc < 256
-  pub parts : x .size + x .tc + x .count ≡ x .wire
+  pub held : x .body ≡ x .size + x .tc
   pub lasts : x .ticks ≤ 720
   pub plain : x .kind ≡ 1 → x ≡ shapeOf bps2400 0
   pub low : x .kind ≡ 3 → x ≡ shapeOf bps600 0
@@ -68,20 +68,20 @@ sized p u k t w = record {
   body = omega arith;
   based = omega (arith, size-pos k);
   less = tc-most k t (w .tc);
-  parts = refl;
+  held = refl;
   lasts = kind-ticks-most k;
   plain = plain-shape k t (w .tc);
   low = low-shape k t (w .tc);
 }
 
--- u octets are unread; n frames behind them are read, which last d ticks and leave the bit b; o octets are no part of their
--- counts
+-- u octets are unread; n frames behind them are read, which have o octets of bodies, last d ticks and leave the bit b
 pub record Held (p : List ℕ) (u n o d b : ℕ) : Type 0 where
   pub later : List Frame
   pub fuel : ℕ
   pub enough : u ≤ fuel
   pub frames : n ≡ length later
-  pub octets : o ≡ length (bodiesOf later) + u
+  pub octets : o ≡ length (bodiesOf later)
+  pub inside : o + u ≤ length p
   pub lasts : d ≡ ticksOf later
   pub most : d ≤ 720 * n
   pub bit : b ≡ left later
@@ -93,14 +93,15 @@ pub too-long : (p : List ℕ) → 1400 < length p → walked.Refused (refuse 1 1
 unfolding readOf
 too-long p h = simp (lt-ltb 1400 (length p) h)
 
-pub held-start : (p : List ℕ) → length p ≤ 1400 → Held p (length p) 0 (length p) 0 0
+pub held-start : (p : List ℕ) → length p ≤ 1400 → Held p (length p) 0 0 0 0
 unfolding readOf
 held-start p h = record {
   later = [];
   fuel = length p;
   enough = omega arith;
   frames = refl;
-  octets = omega arith;
+  octets = refl;
+  inside = omega arith;
   lasts = refl;
   most = omega arith;
   bit = refl;
@@ -112,8 +113,7 @@ held-start p h = record {
 pub held-end : (p : List ℕ) (u n o d b : ℕ) → Held p u n o d b → u ≤ 0 → walked.Whole (record { frames = n; octets = o; ticks = d }) ≡ walkedOf (readOf p)
 held-end p u n o d b h z =
     let e : u ≡ 0 = omega arith in
-    let q : o ≡ length (bodiesOf (h .later)) = omega (arith, h .octets) in
-    rw (← (h .same), e, stay (h .fuel) p (h .later), h .frames, q, h .lasts)
+    rw (← (h .same), e, stay (h .fuel) p (h .later), h .frames, h .octets, h .lasts)
 
 module _ (p : List ℕ) (u n o d b : ℕ) (h : Held p u n o d b) (pos : 1 ≤ u) where
   here : Ending
@@ -148,20 +148,21 @@ module _ (p : List ℕ) (u n o d b : ℕ) (h : Held p u n o d b) (pos : 1 ≤ u)
     pub held-sized : Sized u x
     held-sized = rw (sh .is) (sized p u (sh .kind) (sh .tc) whole)
 
-    next-held : (k : Kind) (t : ℕ) → here ≡ got k t → Whole p u k t → Held p (u - wireLength k t) (n + 1) (o - length (countOf k t)) (d + ticks k) (leaves k)
+    next-held : (k : Kind) (t : ℕ) → here ≡ got k t → Whole p u k t → Held p (u - wireLength k t) (n + 1) (o + (size k + t)) (d + ticks k) (leaves k)
     next-held k t i w = go (h .fuel) (h .enough) (h .same)
       where
         body : length (frameAt p (u - wireLength k t) k t .body) ≡ size k + t
         body = simp length-set (length-base p u k t os (omega (arith, h .few)) w)
 
-        go : (f : ℕ) → u ≤ f → run f p (at u (h .later)) ≡ readOf p → Held p (u - wireLength k t) (n + 1) (o - length (countOf k t)) (d + ticks k) (leaves k)
+        go : (f : ℕ) → u ≤ f → run f p (at u (h .later)) ≡ readOf p → Held p (u - wireLength k t) (n + 1) (o + (size k + t)) (d + ticks k) (leaves k)
         go zero l r = absurd (omega arith)
         go (suc f) l r = record {
           later = frameAt p (u - wireLength k t) k t ∷ h .later;
           fuel = f;
           enough = omega (arith, size-pos k);
           frames = omega (arith, h .frames);
-          octets = simp length-append (omega (arith, h .octets, body, w .room));
+          octets = simp length-append (omega (arith, h .octets, body));
+          inside = omega (arith, h .inside, w .room);
           lasts = omega (arith, h .lasts);
           most = omega (arith, h .most, kind-ticks-most k);
           bit = refl;
@@ -170,5 +171,5 @@ module _ (p : List ℕ) (u n o d b : ℕ) (h : Held p u n o d b) (pos : 1 ≤ u)
           same = ap (run f p) (sym (turns (got k t) i)) ∙ r;
         }
 
-    pub held-got : Held p (u - x .wire) (n + 1) (o - x .count) (d + x .ticks) (x .leaves)
+    pub held-got : Held p (u - x .wire) (n + 1) (o + x .body) (d + x .ticks) (x .leaves)
     held-got = rw (sh .is) (next-held (sh .kind) (sh .tc) (sh .ends) whole)

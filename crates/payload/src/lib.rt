@@ -37,8 +37,7 @@ pub enum Reading {
     Refused(Refusal),
 }
 
-// The walk, from the payload's end to its front: all that is asked of a payload is asked here first. Octets that are no
-// part of a count are octets of a body.
+// The walk, from the payload's end to its front: all that is asked of a payload is asked here first.
 pub fn walk(payload: &[u8]) -> Walked
     ensures { λ r. ⌜ Walks (now (payload .entry)) r ⌝ }
 {
@@ -50,7 +49,7 @@ pub fn walk(payload: &[u8]) -> Walked
     }
     let mut unread = payload.len();
     let mut frames: usize = 0;
-    let mut octets = payload.len();
+    let mut octets: usize = 0;
     let mut ticks: u32 = 0;
     let mut behind: u8 = 0;
     while 0 < unread {
@@ -65,7 +64,7 @@ pub fn walk(payload: &[u8]) -> Walked
             Found::Got(shape) => {
                 unread -= shape.wire;
                 frames += 1;
-                octets -= shape.count;
+                octets += shape.body;
                 ticks += shape.ticks;
                 behind = shape.leaves;
             }

@@ -10,12 +10,12 @@ use lib.ListN.{getD, length}
 use borrow.Author.Tests.{lt-ltb, le-ltb}
 use Rattle.wire.specs.Frame.{Kind, bps2400, bps1200, bps600, noise, tsvcis, size, wireLength}
 use Rattle.wire.specs.Walk.{Ending, bad, got, named, counted, ending, foreign, whole, lastFrame, shapeOf, foundOf}
-use Rattle.wire.specs.Step.{basedShape, fitShape, fitted, ByKind, CountEnd}
+use Rattle.wire.specs.Step.{basedShape, fitShape, fitted, CountEnd}
 use Rattle.wire.specs.declared.Shape.{Shape}
 use Rattle.wire.specs.declared.Found.{Found}
 use Rattle.wire.specs.declared.Found.the-variants.{Bad, Got}
 use Rattle.wire.proofs.Tables.{below-or, Counts, short, long, counts}
-use Rattle.wire.proofs.Steps.{named-1200, named-foreign, named-noise, named-short, counted-zero, counted-short, counted-long, ending-one, ending-alone, ending-two}
+use Rattle.wire.proofs.Steps.{named-short, counted-zero, counted-short, counted-long, ending-one, ending-alone, ending-two}
 
 -- ---- augmentation
 
@@ -83,32 +83,18 @@ module _ (p : List ℕ) (u : ℕ) where
       go false true e = refl
       go false false e = simp e
 
-  pub kind-bad : (n : ℕ) → ending p u ≡ bad n → ByKind p u (Bad n)
+  pub fitted-bad : (n : ℕ) → ending p u ≡ bad n → fitted u (Bad n) ≡ foundOf (lastFrame p u)
   unfolding lastFrame whole
-  kind-bad n e = record { whole = rw e }
+  fitted-bad n e = rw e
 
-  pub kind-plain : (k : Kind) → ((x : ℕ) → foreign k x ≡ false) → ending p u ≡ got k 0 → {x : Shape} → x ≡ shapeOf k 0 → ByKind p u (Got x)
+  pub fitted-plain : (k : Kind) → ((x : ℕ) → foreign k x ≡ false) → ending p u ≡ got k 0 → {x : Shape} → x ≡ shapeOf k 0 → fitted u (Got x) ≡ foundOf (lastFrame p u)
   unfolding lastFrame
-  kind-plain k f e ex = record { whole = ap (fitShape u) ex ∙ rw e (plain-whole k f) }
+  fitted-plain k f e ex = ap (fitShape u) ex ∙ rw e (plain-whole k f)
 
   -- what was found in the walk's own words
-  pub kind-whole : {r : Found} → r ≡ foundOf (lastFrame p u) → ByKind p u r
+  pub fitted-whole : {r : Found} → r ≡ foundOf (lastFrame p u) → fitted u r ≡ foundOf (lastFrame p u)
   unfolding lastFrame
-  kind-whole er = record { whole = ap (fitted u) er ∙ whole-again (ending p u) }
-
-  -- a last octet from 128 to 191
-  pub kind-named : (x : ℕ) → 128 ≤ x → x < 192 → ending p u ≡ named x → {r : Found} → r ≡ foundOf (named x) → ByKind p u r
-  kind-named x a b e {r = r} er = go (below-or x 130) (below-or x 160)
-    where
-      plain : (k : Kind) → ((y : ℕ) → foreign k y ≡ false) → named x ≡ got k 0 → ByKind p u r
-      plain k f n = record { whole = ap (fitted u) (er ∙ ap foundOf n) ∙ kind-plain k f (e ∙ n) refl .whole }
-
-      go : (x < 130) ⊎ (130 ≤ x) → (x < 160) ⊎ (160 ≤ x) → ByKind p u r
-      go (inl c) d = plain bps1200 (λ y. refl) (named-1200 x a c)
-      go (inr c) (inl d) =
-          let n = named-foreign x c d in
-          record { whole = ap (fitted u) (er ∙ ap foundOf n) ∙ kind-bad 3 (e ∙ n) .whole }
-      go (inr c) (inr d) = plain noise (λ y. refl) (named-noise x d b)
+  fitted-whole er = ap (fitted u) er ∙ whole-again (ending p u)
 
   pub last-bad : (n : ℕ) → ending p u ≡ bad n → Bad n ≡ foundOf (lastFrame p u)
   unfolding lastFrame whole

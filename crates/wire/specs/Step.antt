@@ -8,14 +8,14 @@ use lib.Dec.{ltb, eqb}
 use lib.ListN.{length, getD}
 use Rattle.refusal.specs.Numbers.{cutFrame, noiseNotLast, notBehind2400, mixedRates}
 use Rattle.wire.specs.Frame.{Frame, Kind, bps2400, bps1200, bps600, noise, tsvcis, countOf}
-use Rattle.wire.specs.Walk.{Ending, bad, got, lastFrame, leaves, bars, foundOf}
+use Rattle.wire.specs.Walk.{Ending, bad, got, named, lastFrame, leaves, bars, shapeOf, foundOf}
 use Rattle.wire.specs.declared.Shape.{Shape}
 use Rattle.wire.specs.declared.Found.{Found}
 use Rattle.wire.specs.declared.Found.the-variants.{Bad, Got}
 
 -- the numbers of a frame whose base is all of it
 abbrev pub plainShape : ℕ → ℕ → ℕ → ℕ → ℕ → Shape
-plainShape n k c l d = record { kind = n; tc = 0; size = k; code = c; leaves = l; ticks = d; wire = k; count = 0 }
+plainShape n k c l d = record { kind = n; tc = 0; size = k; code = c; leaves = l; ticks = d; wire = k; body = k }
 
 -- a frame of these numbers with augmentation, if u unread octets hold it whole and it stands behind a 2400 bps frame
 unfoldable pub basedShape : List ℕ → ℕ → Shape → Found
@@ -30,14 +30,22 @@ abbrev pub fitted : ℕ → Found → Found
 fitted u (Bad n) = Bad n
 fitted u (Got x) = fitShape u x
 
--- an answer to what a kind alone is asked: the frame that u octets end in, but for its length
-pub record ByKind (p : List ℕ) (u : ℕ) (r : Found) : Type 0 where
-  pub whole : fitted u r ≡ foundOf (lastFrame p u)
-
--- a frame of these numbers, if none of the bits that bar it is among the bits b behind it: its own bit, and of the rates
--- all others; only comfort noise has two octets
+-- a frame of these numbers, if the bit of no rate but its own is among the bits b behind it
 unfoldable pub barShape : ℕ → Shape → Found
-barShape b x = cond (eqb (bitAnd b (bitXor (x .leaves) 7)) 0) (Got x) (cond (eqb (x .wire) 2) (Bad noiseNotLast) (Bad mixedRates))
+barShape b x = cond (eqb (bitAnd b (bitXor (x .leaves) 7)) 0) (Got x) (Bad mixedRates)
+
+-- what was found, put to the same
+abbrev pub rated : ℕ → Found → Found
+rated b (Bad n) = Bad n
+rated b (Got x) = barShape b x
+
+-- comfort noise at the end of u unread octets, with the bits b behind it
+unfoldable pub noiseFound : ℕ → ℕ → Found
+noiseFound u b = cond (ltb u 2) (Bad cutFrame) (cond (eqb (bitAnd b 15) 0) (Got (shapeOf noise 0)) (Bad noiseNotLast))
+
+-- what a last octet x from 128 to 191 names there
+unfoldable pub otherFound : ℕ → ℕ → ℕ → Found
+otherFound u x b = cond (ltb 159 x) (noiseFound u b) (foundOf (named x))
 
 -- the bit that the frames read leave for those before them: that of the last one read; none where nothing is read
 abbrev pub left : List Frame → ℕ
@@ -57,6 +65,10 @@ barredAs tsvcis = mixedRates
 unfoldable pub barred : ℕ → Ending → Ending
 barred b (bad n) = bad n
 barred b (got k t) = cond (eqb (bitAnd b (bars k)) 0) (got k t) (bad (barredAs k))
+
+-- an answer to what a kind alone is asked: the step's, but for the frame's length and rate
+pub record ByKind (p : List ℕ) (u b : ℕ) (r : Found) : Type 0 where
+  pub whole : rated b (fitted u r) ≡ foundOf (barred b (lastFrame p u))
 
 -- the octets end in x, an octet of a count
 pub record CountEnd (p : List ℕ) (x : ℕ) : Type 0 where

@@ -135,7 +135,7 @@ shapeOf k t = record {
   leaves = leaves k;
   ticks = ticks k;
   wire = wireLength k t;
-  count = length (countOf k t);
+  body = size k + t;
 }
 
 -- what stands at the end of the unread octets, as the code answers it

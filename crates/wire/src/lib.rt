@@ -4,7 +4,7 @@ ghost use Prim.Native.Nat.{_≤_, _<_};
 ghost use lib.ListN.{length};
 ghost use Rattle.wire.specs.Frame.{bps2400, bps1200, bps600, noise, tsvcis, ticksOfRate};
 ghost use Rattle.wire.specs.Walk.{named, counted, ending, lastFrame, foundOf, shapeOf};
-ghost use Rattle.wire.specs.Step.{plainShape, basedShape, fitShape, barShape, barred, ByKind, CountEnd, CountIs};
+ghost use Rattle.wire.specs.Step.{plainShape, basedShape, fitShape, rated, noiseFound, otherFound, barred, ByKind, CountEnd, CountIs};
 
 // The kind of a 2400 bps frame without augmentation, the commonest.
 pub const PLAIN_2400: u16 = 1;
@@ -15,12 +15,14 @@ pub const PLAIN_600: u16 = 3;
 // The octets of comfort noise; no other frame is as short.
 const NOISE_OCTETS: usize = 2;
 
-// The bits of the rates in `leaves`.
+// The bits of the rates in `leaves`, and all.
 const RATES: u8 = 7;
 
+const ALL: u8 = 15;
+
 // A frame's numbers: kind and TC as in a row, octets of its base, rate code bits, the bit that it leaves for the frames
-// before it, ticks, octets on the wire and the octets of its count among them. The bit says what was read behind a frame:
-// 1, 2 and 4 a coder frame of 2400, 600 and 1200 bps, 8 comfort noise.
+// before it, ticks, octets on the wire and those of its body among them. The bit says what was read behind a frame: 1, 2 and
+// 4 a coder frame of 2400, 600 and 1200 bps, 8 comfort noise.
 pub struct Shape {
     pub kind: u16,
     pub tc: usize,
@@ -29,7 +31,7 @@ pub struct Shape {
     pub leaves: u8,
     pub ticks: u32,
     pub wire: usize,
-    pub count: usize,
+    pub body: usize,
 }
 
 // What the unread octets end in: a refusal's number, or a frame.
@@ -74,7 +76,7 @@ fn plain(kind: u16, size: usize, code: u8, leaves: u8, ticks: u32) -> Shape
         leaves,
         ticks,
         wire: size,
-        count: 0,
+        body: size,
     }
 }
 
@@ -115,7 +117,7 @@ fn shape_tsvcis(tc: usize, count: usize) -> Shape
         leaves: 1,
         ticks: 180,
         wire: 7 + tc + count,
-        count,
+        body: 7 + tc,
     }
 }
 
@@ -217,9 +219,33 @@ fn tsvcis_frame(unread: &[u8], x: u8) -> Found
     }
 }
 
+// Comfort noise at the end of n unread octets, before which nothing may have been read.
+fn noise_frame(n: usize, behind: u8) -> Found
+    ensures { λ r. ⌜ r ≡ noiseFound n behind ⌝ }
+{
+    if n < NOISE_OCTETS {
+        return Found::Bad(refusal::CUT);
+    }
+    if behind & ALL != 0 {
+        return Found::Bad(refusal::NOISE_NOT_LAST);
+    }
+    Found::Got(shape_noise())
+}
+
+// The frame that a last octet x from 128 to 191 names, at the end of n unread octets.
+fn other_frame(n: usize, x: u8, behind: u8) -> Found
+    requires { ⌜ (128 ≤ x) × (x < 192) ⌝ }
+    ensures { λ r. ⌜ r ≡ otherFound n x behind ⌝ }
+{
+    if 159 < x {
+        return noise_frame(n, behind);
+    }
+    last_octet(x)
+}
+
 // The frame that the unread octets end in, with what its kind alone is asked.
-fn by_kind(unread: &[u8]) -> Found
-    ensures { λ r. ⌜ ByKind (now (unread .entry)) (length (now (unread .entry))) r ⌝ }
+fn by_kind(unread: &[u8], behind: u8) -> Found
+    ensures { λ r. ⌜ ByKind (now (unread .entry)) (length (now (unread .entry))) behind r ⌝ }
 {
     let n = unread.len();
     if n == 0 {
@@ -233,41 +259,20 @@ fn by_kind(unread: &[u8]) -> Found
         if x < 128 {
             return Found::Got(shape_600());
         }
-        return last_octet(x);
+        return other_frame(n, x, behind);
     }
     tsvcis_frame(unread, x)
 }
 
-// A frame at the end of n unread octets.
-fn fits(n: usize, shape: Shape) -> Found
-    ensures { λ r. ⌜ r ≡ fitShape n shape ⌝ }
+// A frame at the end of n unread octets, whole, and not before a coder frame of another rate.
+fn admit(n: usize, shape: Shape, behind: u8) -> Found
+    ensures { λ r. ⌜ r ≡ rated behind (fitShape n shape) ⌝ }
 {
     if n < shape.wire {
         return Found::Bad(refusal::CUT);
     }
-    Found::Got(shape)
-}
-
-// The frame that the unread octets end in, whole.
-fn last_frame(unread: &[u8]) -> Found
-    ensures { λ r. ⌜ r ≡ foundOf (lastFrame (now (unread .entry)) (length (now (unread .entry)))) ⌝ }
-{
-    let found = by_kind(unread);
-    match found {
-        Found::Bad(number) => Found::Bad(number),
-        Found::Got(shape) => fits(unread.len(), shape),
-    }
-}
-
-// A frame beside what was read behind it: the other rates bar a coder frame, all bits bar comfort noise.
-fn beside(shape: Shape, behind: u8) -> Found
-    ensures { λ r. ⌜ r ≡ barShape behind shape ⌝ }
-{
     if behind & (shape.leaves ^ RATES) == 0 {
         return Found::Got(shape);
-    }
-    if shape.wire == NOISE_OCTETS {
-        return Found::Bad(refusal::NOISE_NOT_LAST);
     }
     Found::Bad(refusal::MIXED_RATES)
 }
@@ -277,9 +282,9 @@ fn beside(shape: Shape, behind: u8) -> Found
 pub fn step(unread: &[u8], behind: u8) -> Found
     ensures { λ r. ⌜ r ≡ foundOf (barred behind (lastFrame (now (unread .entry)) (length (now (unread .entry))))) ⌝ }
 {
-    let found = last_frame(unread);
+    let found = by_kind(unread, behind);
     match found {
         Found::Bad(number) => Found::Bad(number),
-        Found::Got(shape) => beside(shape, behind),
+        Found::Got(shape) => admit(unread.len(), shape, behind),
     }
 }

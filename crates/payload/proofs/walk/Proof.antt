@@ -44,8 +44,8 @@ sub-unread c = frame (c .before .before) .room
 add-frames : tie.Need-add-frames Inv-loop μ-loop
 add-frames c = omega (arith, c .before .before .before .before .before .before .before .loop .inv .few, c .before .before .before .before .before .before .before .loop .inv .short)
 
-sub-octets : tie.Need-sub-octets Inv-loop μ-loop
-sub-octets c = let w = frame (c .before .before .before) in omega (arith, w .parts, w .room, c .before .before .before .before .before .before .before .before .loop .inv .octets)
+add-octets : tie.Need-add-octets Inv-loop μ-loop
+add-octets c = let w = frame (c .before .before .before) in omega (arith, w .held, w .body, w .room, c .before .before .before .before .before .before .before .before .loop .inv .inside, c .before .before .before .before .before .before .before .before .loop .inv .short)
 
 add-ticks : tie.Need-add-ticks Inv-loop μ-loop
 add-ticks c = let w = frame (c .before .before .before .before) in omega (arith, w .lasts, c .before .before .before .before .before .before .before .before .before .loop .inv .most, c .before .before .before .before .before .before .before .before .before .loop .inv .few, c .before .before .before .before .before .before .before .before .before .loop .inv .short)
@@ -74,7 +74,7 @@ walk-spec =
     enum-known-found-2
     sub-unread
     add-frames
-    sub-octets
+    add-octets
     add-ticks
     loop-less
     loop-again

@@ -1,11 +1,10 @@
-use Rattle.wire.proofs.Shapes.{bad-is, shaped}
 use Rattle.wire.proofs.Barred.{step-bad, step-got}
 use borrow.Author.Needs.{needs}
 use Rattle.wire.proofs.step.Statement.{statement}
 use Rattle.wire.proofs.step.Tie as tie
 
-last-frame-requires : tie.Need-last-frame-requires
-last-frame-requires c κs = search needs
+by-kind-requires : tie.Need-by-kind-requires
+by-kind-requires c κs = search needs
 
 enum-known-found : tie.Need-enum-known-found
 enum-known-found c = search needs
@@ -13,16 +12,16 @@ enum-known-found c = search needs
 enum-known-found-2 : tie.Need-enum-known-found-2
 enum-known-found-2 c = search needs
 
-beside-requires : tie.Need-beside-requires
-beside-requires c κs = search needs
+admit-requires : tie.Need-admit-requires
+admit-requires c κs = search needs
 
 returns : tie.Need-returns
-returns c = step-bad _ _ _ (bad-is _ _ (c .before .found .given .1) (c .before .before .before .last-frame .ensures))
+returns c = step-bad (c .before .before .before .by-kind .ensures) _ (c .before .found .given .1)
 
 returns-2 : tie.Need-returns-2
-returns-2 c = step-got _ _ _ (λ i. c .before .before .before .before .before .shared-slice-known .given i .fits) _ (shaped _ _ (c .before .before .found2 .given .1) (c .before .before .before .before .last-frame .ensures)) (c .beside .ensures)
+returns-2 c = step-got (c .before .before .before .before .by-kind .ensures) _ (c .before .before .found2 .given .1) (c .admit .ensures)
 
 pub step-spec : {M : Type 1} → statement M
 step-spec =
     tie.close
-    (tie.spec last-frame-requires enum-known-found enum-known-found-2 beside-requires returns returns-2)
+    (tie.spec by-kind-requires enum-known-found enum-known-found-2 admit-requires returns returns-2)
