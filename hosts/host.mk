@@ -11,7 +11,7 @@ SECONDS ?= 60
 
 # rt is to run once at a time.
 .NOTPARALLEL:
-.PHONY: host host-test host-c-test host-rust-test example bench fuzz
+.PHONY: host host-test host-c-test host-rust-test example bench bench-placed fuzz
 
 host:
 	rt staticlib host
@@ -67,6 +67,10 @@ BENCH_ENV = $(CARGO_ENV) MOULT_REFERENCE=$(abspath $(HOST_OUT)/libreference.a)
 bench: $(MOULT_LIB) $(HOST_OUT)/libreference.a $(HOST_OUT)/c_list
 	$(BENCH_ENV) cargo build --offline --release --quiet --manifest-path bench/rust/Cargo.toml
 	$(CARGO_OUT)/release/bench target/bin/list $(HOST_OUT)/c_list $(CARGO_OUT)/release/list $(HOST_OUT)/listing
+
+# The same at four places of the library's functions.
+bench-placed: $(MOULT_LIB) $(HOST_OUT)/libreference.a $(HOST_OUT)/c_list
+	bench/placed.sh $(MOULT_LIB) $(HOST_OUT)/placed $(MAKE) --no-print-directory --silent bench
 
 # The fuzzer: the library beside a second C reading, by libFuzzer. Not part of the gate.
 CLANG ?= clang
