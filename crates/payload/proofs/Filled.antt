@@ -73,13 +73,13 @@ filled-end p r₀ b₀ u i o r b h z =
 pub record Turned (p r₀ b₀ : List ℕ) (u i o : ℕ) (r b : List ℕ) (x : Shape) : Type 0 where
   pub frame : Sized u x
   pub some : 1 ≤ i
-  pub has : x .size + x .tc ≤ o
+  pub has : x .body ≤ o
   pub coded : x .code ≤ getD p (u - x .wire + (x .size - 1)) 0
   pub in-rows : 2 * i ≤ length r
   pub in-bodies : o ≤ length b
   pub inside : u ≤ length p
-  pub then : Filled p r₀ b₀ (u - x .wire) (i - 1) (o - (x .size + x .tc)) (set (set r (2 * (i - 1)) (x .kind)) (2 * (i - 1) + 1) (x .tc))
-      (put b (o - (x .size + x .tc)) (bodyAt p (u - x .wire) x))
+  pub then : Filled p r₀ b₀ (u - x .wire) (i - 1) (o - x .body) (set (set r (2 * (i - 1)) (x .kind)) (2 * (i - 1) + 1) (x .tc))
+      (put b (o - x .body) (bodyAt p (u - x .wire) x))
 
 module _ (p r₀ b₀ : List ℕ) (u i o : ℕ) (r b : List ℕ) (h : Filled p r₀ b₀ u i o r b) (pos : 1 ≤ u) where
   on : Onward p u (h .later) (h .fs)
@@ -134,7 +134,7 @@ module _ (p r₀ b₀ : List ℕ) (u i o : ℕ) (r b : List ℕ) (h : Filled p r
 
 -- there is room for the frame
 pub turned-fits : {p r₀ b₀ : List ℕ} {u i o : ℕ} {r b : List ℕ} {x : Shape} → Turned p r₀ b₀ u i o r b x
-    → FrameFits p (u - x .wire) x (length r) (i - 1) (length b) (o - (x .size + x .tc))
+    → FrameFits p (u - x .wire) x (length r) (i - 1) (length b) (o - x .body)
 turned-fits w = record {
   row = omega (arith, w .some, w .in-rows);
   few = omega (arith, w .frame .less);
@@ -142,6 +142,7 @@ turned-fits w = record {
     inside = omega (arith, w .frame .room, w .frame .body, w .inside);
     room = omega (arith, w .has, w .in-bodies);
     based = w .frame .based;
+    base = w .frame .base;
     coded = w .coded;
   };
   plain = w .frame .plain;
@@ -150,6 +151,6 @@ turned-fits w = record {
 
 -- the same, at what the calls left
 pub turned-then : {p r₀ b₀ : List ℕ} {u i o : ℕ} {r b : List ℕ} {x : Shape} {r′ b′ : List ℕ} → Turned p r₀ b₀ u i o r b x
-    → r′ ≡ set (set r (2 * (i - 1)) (x .kind)) (2 * (i - 1) + 1) (x .tc) → b′ ≡ put b (o - (x .size + x .tc)) (bodyAt p (u - x .wire) x)
-    → Filled p r₀ b₀ (u - x .wire) (i - 1) (o - (x .size + x .tc)) r′ b′
+    → r′ ≡ set (set r (2 * (i - 1)) (x .kind)) (2 * (i - 1) + 1) (x .tc) → b′ ≡ put b (o - x .body) (bodyAt p (u - x .wire) x)
+    → Filled p r₀ b₀ (u - x .wire) (i - 1) (o - x .body) r′ b′
 turned-then w er eb = rw (er, eb) (w .then)

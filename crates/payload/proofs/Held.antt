@@ -39,10 +39,10 @@ barred-keeps p u b (got k t) w = go (eqb (bitAnd b (bars k)) 0)
 pub record Sized (u : ℕ) (x : Shape) : Type 0 where
   pub room : x .wire ≤ u
   pub some : 2 ≤ x .wire
-  pub body : x .size + x .tc ≤ x .wire
+  pub body : x .body ≤ x .wire
   pub based : 1 ≤ x .size
   pub less : x .tc < 256
-  pub held : x .body ≡ x .size + x .tc
+  pub base : x .size ≤ x .body
   pub lasts : x .ticks ≤ 720
   pub plain : x .kind ≡ 1 → x ≡ shapeOf bps2400 0
   pub low : x .kind ≡ 3 → x ≡ shapeOf bps600 0
@@ -68,7 +68,7 @@ sized p u k t w = record {
   body = omega arith;
   based = omega (arith, size-pos k);
   less = tc-most k t (w .tc);
-  held = refl;
+  base = omega arith;
   lasts = kind-ticks-most k;
   plain = plain-shape k t (w .tc);
   low = low-shape k t (w .tc);

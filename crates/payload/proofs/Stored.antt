@@ -27,13 +27,13 @@ set-pasted d s a n j v hd hs hj =
     (ap (λ (k : ℕ). set (take a d ++ take n s) (k + j) v) (sym l) ∙ set-append-add (take a d) (take n s) j v)
 
 -- a body that was copied, with its last base octet stored anew
-pub body-put : (p d : List ℕ) (a : ℕ) (x : Shape) (o : ℕ) {e : List ℕ} → BodyFits p a x (length d) o → e ≡ paste d o (drop a p) (x .size + x .tc)
+pub body-put : (p d : List ℕ) (a : ℕ) (x : Shape) (o : ℕ) {e : List ℕ} → BodyFits p a x (length d) o → e ≡ paste d o (drop a p) (x .body)
     → set e (o + (x .size - 1)) (getD p (a + (x .size - 1)) 0 - x .code) ≡ put d o (bodyAt p a x)
 body-put p d a x o {e} h ee =
-    let m : length (take (x .size + x .tc) (drop a p)) ≡ x .size + x .tc = length-take-le (x .size + x .tc) (drop a p) (simp length-drop (omega (arith, h .inside))) in
-    let l : length (bodyAt p a x) ≡ x .size + x .tc = simp length-set m in
+    let m : length (take (x .body) (drop a p)) ≡ x .body = length-take-le (x .body) (drop a p) (simp length-drop (omega (arith, h .inside))) in
+    let l : length (bodyAt p a x) ≡ x .body = simp length-set m in
     rw (ee, l)
-    (set-pasted d (drop a p) o (x .size + x .tc) (x .size - 1) (getD p (a + (x .size - 1)) 0 - x .code) (h .room) (simp length-drop (omega (arith, h .inside))) (omega (arith, h .based)))
+    (set-pasted d (drop a p) o (x .body) (x .size - 1) (getD p (a + (x .size - 1)) 0 - x .code) (h .room) (simp length-drop (omega (arith, h .inside))) (omega (arith, h .based)))
 
 -- a 2400 bps frame, whose numbers are known: its body is copied as it stands
 module _ (p : List ℕ) (a : ℕ) (x : Shape) (r d : List ℕ) (i o : ℕ) (h : FrameFits p a x (length r) i (length d) o) (is : x .kind ≡ 1) where

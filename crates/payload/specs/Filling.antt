@@ -13,13 +13,14 @@ put xs a ys = take a xs ++ ys ++ drop (a + length ys) xs
 
 -- the body of a frame of these numbers whose octets start at a
 abbrev pub bodyAt : List ℕ → ℕ → Shape → List ℕ
-bodyAt p a x = set (take (x .size + x .tc) (drop a p)) (x .size - 1) (getD p (a + (x .size - 1)) 0 - x .code)
+bodyAt p a x = set (take (x .body) (drop a p)) (x .size - 1) (getD p (a + (x .size - 1)) 0 - x .code)
 
 -- the body of a frame at a stands in p, and n octets have room for it at o
 pub record BodyFits (p : List ℕ) (a : ℕ) (x : Shape) (n o : ℕ) : Type 0 where
-  pub inside : a + (x .size + x .tc) ≤ length p
-  pub room : o + (x .size + x .tc) ≤ n
+  pub inside : a + x .body ≤ length p
+  pub room : o + x .body ≤ n
   pub based : 1 ≤ x .size
+  pub base : x .size ≤ x .body
   pub coded : x .code ≤ getD p (a + (x .size - 1)) 0
 
 -- the same with its row, the i-th, for which r numbers have room. The numbers of a 2400 or 600 bps frame follow from its kind.

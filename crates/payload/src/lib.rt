@@ -93,7 +93,7 @@ fn put_body(payload: &[u8], start: usize, shape: Shape, dst: &mut [u8], at: usiz
     ensures { λ _. ⌜ now (dst .exit) ≡ put (now (dst .entry)) at (bodyAt (now (payload .entry)) start shape) ⌝ }
 {
     let last = shape.size - 1;
-    copy_octets(payload, start, shape.size + shape.tc, dst, at);
+    copy_octets(payload, start, shape.body, dst, at);
     dst[at + last] = payload[start + last] - shape.code;
 }
 
@@ -152,7 +152,7 @@ fn fill(payload: &[u8], rows: &mut [u16], bodies: &mut [u8], n: usize, m: usize)
             Found::Got(shape) => {
                 unread -= shape.wire;
                 i -= 1;
-                o -= shape.size + shape.tc;
+                o -= shape.body;
                 put_frame(payload, unread, shape, rows, i, bodies, o);
             }
         }

@@ -12,12 +12,13 @@ pub const PLAIN_2400: u16 = 1;
 // The kind of a 600 bps frame.
 pub const PLAIN_600: u16 = 3;
 
-// The octets of comfort noise; no other frame is as short.
+// The octets of comfort noise.
 const NOISE_OCTETS: usize = 2;
 
-// The bits of the rates in `leaves`, and all.
+// The bits of the rates in `leaves`.
 const RATES: u8 = 7;
 
+// All bits of `leaves`.
 const ALL: u8 = 15;
 
 // A frame's numbers: kind and TC as in a row, octets of its base, rate code bits, the bit that it leaves for the frames
@@ -219,7 +220,7 @@ fn tsvcis_frame(unread: &[u8], x: u8) -> Found
     }
 }
 
-// Comfort noise at the end of n unread octets, before which nothing may have been read.
+// Comfort noise at the end of n unread octets: it may only be last, with nothing read behind it.
 fn noise_frame(n: usize, behind: u8) -> Found
     ensures { λ r. ⌜ r ≡ noiseFound n behind ⌝ }
 {

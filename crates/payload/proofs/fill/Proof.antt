@@ -48,9 +48,6 @@ sub-unread c = turn (c .before .before) .frame .room
 sub-i : tie.Need-sub-i Inv-loop μ-loop
 sub-i c = turn (c .before .before) .some
 
-add-o : tie.Need-add-o Inv-loop μ-loop
-add-o c = let w = turn (c .before .before .before) in omega (arith, w .has, w .in-bodies, c .before .before .before .before .before .before .before .before .before .before .before .before .good)
-
 sub-o : tie.Need-sub-o Inv-loop μ-loop
 sub-o c = turn (c .before .before .before) .has
 
@@ -88,7 +85,6 @@ fill-spec =
     enum-known-found
     sub-unread
     sub-i
-    add-o
     sub-o
     put-frame-requires
     loop-less

@@ -6,9 +6,6 @@ use Rattle.payload.proofs.put_body.Tie as tie
 sub-last : tie.Need-sub-last
 sub-last c = search needs
 
-add-copy-octets : tie.Need-add-copy-octets
-add-copy-octets c = search needs
-
 copy-octets-requires : tie.Need-copy-octets-requires
 copy-octets-requires c κs = search needs
 
@@ -31,14 +28,13 @@ same-length : tie.Need-same-length
 same-length c = search needs
 
 returns : tie.Need-returns
-returns c = body-put _ _ _ _ _ (c .before .before .before .before .before .before .before .before .before .before .pre) (c .before .before .before .before .copy-octets .ensures)
+returns c = body-put _ _ _ _ _ (c .before .before .before .before .before .before .before .before .before .pre) (c .before .before .before .before .copy-octets .ensures)
 
 pub put-body-spec : {M : Type 1} → statement M
 put-body-spec =
     tie.close
     (tie.spec
     sub-last
-    add-copy-octets
     copy-octets-requires
     add-dst
     shared-slice-read-dst

@@ -45,7 +45,7 @@ add-frames : tie.Need-add-frames Inv-loop μ-loop
 add-frames c = omega (arith, c .before .before .before .before .before .before .before .loop .inv .few, c .before .before .before .before .before .before .before .loop .inv .short)
 
 add-octets : tie.Need-add-octets Inv-loop μ-loop
-add-octets c = let w = frame (c .before .before .before) in omega (arith, w .held, w .body, w .room, c .before .before .before .before .before .before .before .before .loop .inv .inside, c .before .before .before .before .before .before .before .before .loop .inv .short)
+add-octets c = let w = frame (c .before .before .before) in omega (arith, w .body, w .room, c .before .before .before .before .before .before .before .before .loop .inv .inside, c .before .before .before .before .before .before .before .before .loop .inv .short)
 
 add-ticks : tie.Need-add-ticks Inv-loop μ-loop
 add-ticks c = let w = frame (c .before .before .before .before) in omega (arith, w .lasts, c .before .before .before .before .before .before .before .before .before .loop .inv .most, c .before .before .before .before .before .before .before .before .before .loop .inv .few, c .before .before .before .before .before .before .before .before .before .loop .inv .short)
