@@ -160,7 +160,7 @@ fn tsvcis_row(tc: u16) -> Told
 }
 
 // What the two numbers of a row say: 12, 13, or its frame's layout. Of five tests for equality the compiler would make a jump
-// through a table, which costs more here.
+// through a table, which costs more, here and in `put_row`.
 fn row(kind: u16, tc: u16) -> Told
     ensures { λ r. ⌜ r ≡ toldOf (rowOf kind tc) ⌝ }
 {
@@ -300,19 +300,19 @@ fn body_end(bodies: &[u8], from: usize, size: usize, tc: usize, top: u8) -> Look
 }
 
 // The same for a row that the checks have passed. Each kind goes its own way, here and in `put_row`, so that the compiler knows
-// its numbers.
+// its numbers; the odd kinds, 1, 3 and 5, have a base of seven octets.
 fn look(rows: &[u16], at: usize, bodies: &[u8], from: usize) -> Looked
     requires { ⌜ RowAt (now rows) at × (from + (size (kindAt (now rows) at) + tcAt (now rows) at) ≤ length (now bodies)) ⌝ }
     ensures { λ r. ⌜ r ≡ lookOf (now (bodies .entry)) from (kindAt (now (rows .entry)) at) (tcAt (now (rows .entry)) at) ⌝ }
 {
     let kind = rows[at];
+    if kind % 2 == 1 {
+        return body_end(bodies, from, 7, wide(rows[at + 1]), 63);
+    }
     if kind == 2 {
         return body_end(bodies, from, 11, 0, 1);
     }
-    if kind == 4 {
-        return body_end(bodies, from, 2, 0, 31);
-    }
-    body_end(bodies, from, 7, wide(rows[at + 1]), 63)
+    body_end(bodies, from, 2, 0, 31)
 }
 
 // The first bad end among the bodies.
@@ -383,22 +383,22 @@ fn put_frame(bodies: &[u8], from: usize, layout: Layout, out: &mut [u8], at: usi
     }
 }
 
-// The same for a row that the checks have passed.
+// The same for a row that the checks have passed, by tests that, as those of `row`, make no jump through a table.
 fn put_row(rows: &[u16], at: usize, bodies: &[u8], from: usize, out: &mut [u8], to: usize) -> Starts
     requires { ⌜ PutAt (now rows) (now bodies) at from (length (now out)) to ⌝ }
     ensures { λ r. ⌜ FramePut (now (bodies .entry)) from (layoutOf (kindAt (now (rows .entry)) at) (tcAt (now (rows .entry)) at)) (now (out .entry)) to r (now (out .exit)) ⌝ }
 {
     let kind = rows[at];
-    if kind == 1 {
+    if kind < 2 {
         return put_frame(bodies, from, layout_2400(), out, to);
     }
-    if kind == 5 {
+    if 4 < kind {
         return put_frame(bodies, from, layout_tsvcis(rows[at + 1]), out, to);
     }
     if kind == 3 {
         return put_frame(bodies, from, layout_600(), out, to);
     }
-    if kind == 2 {
+    if kind < 3 {
         return put_frame(bodies, from, layout_1200(), out, to);
     }
     put_frame(bodies, from, layout_noise(), out, to)
