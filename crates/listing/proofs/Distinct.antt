@@ -6,12 +6,8 @@ use mathlib.Core.List.{List, [], _∷_, _++_}
 use Prim.Native.Nat.{ℕ, zero, suc, _+_, _/_, _%_, _≤_, _<_}
 use native.Mathlib.Omega.{arith}
 use lib.ListN.{length}
-use Rattle.refusal.specs.declared.Refusal.{Refusal}
-use Rattle.wire.specs.Frame.{Frame}
+use Rattle.wire.specs.Frame.{Frame, ticksOf}
 use Rattle.wire.specs.Walk.{at, refused, readOf}
-use Rattle.payload.specs.Reading.{walkedOf, extent}
-use Rattle.payload.specs.declared.Extent.{Extent}
-use Rattle.payload.specs.declared.Walked.the-variants.{Whole, Refused}
 use Rattle.leb128.proofs.Steps.{below-or}
 use Rattle.listing.specs.Line.{digits, decimal, okWord, refusedWord, row, lineOf, payloadLine}
 use Rattle.listing.proofs.Digits.{digits-one, digits-more, valueFrom, decimal-value}
@@ -62,17 +58,15 @@ rows-differ n m a b x y q =
 
 -- "a refused payload is never shown as an empty one": the line of a payload that is refused, whatever its number and that
 -- of an accepted one
-pub refused-line : (p q : List ℕ) (n m k place : ℕ) (later : List Frame) (t : Extent) → readOf p ≡ refused k place later → walkedOf (readOf q) ≡ Whole t
+pub refused-line : (p q : List ℕ) (n m k place u : ℕ) (later fs : List Frame) → readOf p ≡ refused k place later → readOf q ≡ at u fs
     → payloadLine n p ≡ payloadLine m q → ⊥
-refused-line p q n m k place later t ep eq e =
-    rows-differ n m k place (t .frames) (t .ticks)
-    (sym (ap (λ w. lineOf n (walkedOf w)) ep) ∙ e ∙ ap (lineOf m) eq)
+refused-line p q n m k place u later fs ep eq e =
+    rows-differ n m k place (length fs) (ticksOf fs) (sym (ap (lineOf n) ep) ∙ e ∙ ap (lineOf m) eq)
 
 -- an empty payload among them
 pub refused-not-empty : (p : List ℕ) (n m k place : ℕ) (later : List Frame) → readOf p ≡ refused k place later → payloadLine n p ≡ payloadLine m [] → ⊥
 unfolding readOf
-refused-not-empty p n m k place later ep e =
-    refused-line p [] n m k place later (record { frames = 0; octets = 0; ticks = 0 }) ep refl e
+refused-not-empty p n m k place later ep e = refused-line p [] n m k place 0 later [] ep refl e
 
 -- two lines of accepted payloads: as many frames
 same-frames : (n m a b x y : ℕ) → a < 18446744073709551616 → x < 18446744073709551616 → row n okWord a b ≡ row m okWord x y → a ≡ x
@@ -86,5 +80,5 @@ pub frames-not-empty : (p : List ℕ) (n m : ℕ) (fs : List Frame) → readOf p
     → payloadLine n p ≡ payloadLine m [] → ⊥
 unfolding readOf
 frames-not-empty p n m fs ep h l e =
-    let z : length fs ≡ 0 = same-frames n m (length fs) (extent fs .ticks) 0 0 (omega arith) (omega arith) (sym (ap (λ w. lineOf n (walkedOf w)) ep) ∙ e) in
+    let z : length fs ≡ 0 = same-frames n m (length fs) (ticksOf fs) 0 0 (omega arith) (omega arith) (sym (ap (lineOf n) ep) ∙ e) in
     omega arith

@@ -6,11 +6,13 @@ use native.Mathlib.Omega.{arith}
 use lib.ListN.{length, length-append}
 use borrow.Author.Tests.{lt-ltb, le-ltb}
 use Rattle.refusal.specs.declared.Refusal.{Refusal}
-use Rattle.wire.specs.Walk.{readOf}
-use Rattle.payload.specs.Reading.{walkedOf}
+use Rattle.wire.specs.Frame.{Octets, ticksOf}
+use Rattle.wire.specs.Walk.{Walk, at, refused, readOf}
+use Rattle.payload.specs.Reading.{walkedOf, ticksIn}
 use Rattle.payload.specs.declared.Extent.{Extent}
 use Rattle.payload.specs.declared.Walked.{Walked}
 use Rattle.payload.specs.declared.Walked.the-variants.{Whole, Refused}
+use Rattle.payload.proofs.Seen.{went, ticks-seen, stopped}
 use Rattle.listing.specs.Line.{decimal, okWord, refusedWord, row, lineOf, payloadLine, closing}
 use Rattle.listing.specs.Listing.{following}
 use Rattle.listing.specs.Carried.{Puts}
@@ -66,12 +68,15 @@ module _ (o w : List ℕ) (n : ℕ) (room : 25 ≤ length o) (short : length w �
   closing-put q = puts-same o 0 (append-assoc w (decimal n) (10 ∷ [])) (puts-then o 0 (w ++ decimal n) (10 ∷ []) p q (omega (arith, field-long w n 4 short)))
 
 -- the line of a payload
-module _ (o : List ℕ) (a n : ℕ) (p : List ℕ) {x y : ℕ} {c : Walked} (q : c ≡ walkedOf (readOf p)) {e : List ℕ} {r : ℕ} where
-  pub line-whole : (t : Extent) → c ≡ Whole t → x ≡ t .frames → y ≡ t .ticks → Puts o a (row n okWord x y) e r → Puts o a (payloadLine n p) e r
-  line-whole t w ex ey s = puts-same o a (rw (ex, ey) (ap (lineOf n) (sym w ∙ q))) s
+module _ (o : List ℕ) (a n : ℕ) (p : List ℕ) (os : Octets p) {x y : ℕ} {c : Walked} (q : c ≡ walkedOf (readOf p)) {e : List ℕ} {r : ℕ} where
+  pub line-whole : (t : Extent) → c ≡ Whole t → x ≡ t .frames → y ≡ ticksIn t → Puts o a (row n okWord x y) e r → Puts o a (payloadLine n p) e r
+  line-whole t w ex ey s =
+      let g = went p os q t w in
+      let ef = ex ∙ ap (λ (z : Extent). z .frames) (g .1) in
+      puts-same o a (rw (ef, ey ∙ ticks-seen p os q t w) (ap (lineOf n) (sym (g .0 .reads)))) s
 
   pub line-refused : (f : Refusal) → c ≡ Refused f → x ≡ f .number → y ≡ f .place → Puts o a (row n refusedWord x y) e r → Puts o a (payloadLine n p) e r
-  line-refused f w ex ey s = puts-same o a (rw (ex, ey) (ap (lineOf n) (sym w ∙ q))) s
+  line-refused f w ex ey s = puts-same o a (rw (ex, ey) (ap (lineOf n) (sym (stopped p os q f w .reads)))) s
 
 -- ---- the number of a line
 
@@ -99,8 +104,8 @@ row-long n w x y h =
     )
 
 pub line-long : (n : ℕ) (p : List ℕ) → length (payloadLine n p) ≤ 71
-line-long n p = go (walkedOf (readOf p))
+line-long n p = go (readOf p)
   where
-    go : (c : Walked) → length (lineOf n c) ≤ 71
-    go (Whole t) = row-long n okWord (t .frames) (t .ticks) (omega arith)
-    go (Refused f) = row-long n refusedWord (f .number) (f .place) (omega arith)
+    go : (w : Walk) → length (lineOf n w) ≤ 71
+    go (at u fs) = row-long n okWord (length fs) (ticksOf fs) (omega arith)
+    go (refused k place later) = row-long n refusedWord k place (omega arith)

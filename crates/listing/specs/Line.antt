@@ -3,10 +3,9 @@ use mathlib.Core.Bool.{cond}
 use mathlib.Core.List.{List, [], _∷_, _++_}
 use Prim.Native.Nat.{ℕ, zero, suc, _+_, _/_, _%_}
 use lib.Dec.{ltb}
-use Rattle.wire.specs.Walk.{readOf}
-use Rattle.payload.specs.Reading.{walkedOf}
-use Rattle.payload.specs.declared.Walked.{Walked}
-use Rattle.payload.specs.declared.Walked.the-variants.{Whole, Refused}
+use lib.ListN.{length}
+use Rattle.wire.specs.Frame.{ticksOf}
+use Rattle.wire.specs.Walk.{Walk, at, refused, readOf}
 
 -- the decimal digits of n, highest first, no leading zero; k digits are enough for it
 abbrev pub digits : ℕ → ℕ → List ℕ
@@ -42,13 +41,13 @@ abbrev pub row : ℕ → List ℕ → ℕ → ℕ → List ℕ
 row n word a b = decimal n ++ (word ++ (decimal a ++ (32 ∷ (decimal b ++ (10 ∷ [])))))
 
 -- "(number, frames, ticks; or number, refusal, place)": the line of the payload with the number n
-abbrev pub lineOf : ℕ → Walked → List ℕ
-lineOf n (Whole t) = row n okWord (t .frames) (t .ticks)
-lineOf n (Refused x) = row n refusedWord (x .number) (x .place)
+abbrev pub lineOf : ℕ → Walk → List ℕ
+lineOf n (at u fs) = row n okWord (length fs) (ticksOf fs)
+lineOf n (refused k place later) = row n refusedWord k place
 
 -- the line of the payload p, which has the number n
 abbrev pub payloadLine : ℕ → List ℕ → List ℕ
-payloadLine n p = lineOf n (walkedOf (readOf p))
+payloadLine n p = lineOf n (readOf p)
 
 -- a word and a number, and the line's end
 abbrev pub closing : List ℕ → ℕ → List ℕ

@@ -1,4 +1,5 @@
 pub mod Held
+pub mod Sums
 pub mod Seen
 pub mod Onward
 pub mod Stored

@@ -3,7 +3,7 @@ ghost use mathlib.Core.Path.{_≡_};
 ghost use Prim.Native.Nat.{_+_, _*_, _≤_, _<_};
 ghost use lib.ListN.{length, set, drop};
 ghost use lib.Seq.{paste};
-ghost use Rattle.payload.specs.Reading.{Walks, readInto};
+ghost use Rattle.payload.specs.Reading.{Walks, octetsIn, ticksIn, readInto};
 ghost use Rattle.payload.specs.Filling.{Known, BodyFits, FrameFits, put, bodyAt};
 ghost use Rattle.payload.specs.Promise.{Reads};
 use refusal::Refusal;
@@ -18,11 +18,12 @@ pub use writer::write;
 
 const MOST_OCTETS: usize = 1400;
 
-// What the walk over a payload comes to: frames, octets of their bodies, and ticks.
+// What the walk over a payload comes to: frames, octets of their counts, and the sum of their marks. `octets_of` makes the
+// octets of bodies of it, and `ticks_of` the ticks.
 pub struct Extent {
     pub frames: usize,
-    pub octets: usize,
-    pub ticks: u32,
+    pub counts: usize,
+    pub marks: u32,
 }
 
 // An empty payload is whole and holds no frames; a refused one is the other case.
@@ -37,7 +38,8 @@ pub enum Reading {
     Refused(Refusal),
 }
 
-// The walk, from the payload's end to its front: all that is asked of a payload is asked here first.
+// The walk, from the payload's end to its front: all that is asked of a payload is asked here first. Behind a frame it goes
+// over those like it, of which only the last octet has to be asked, in a loop of their own.
 pub fn walk(payload: &[u8]) -> Walked
     ensures { λ r. ⌜ Walks (now (payload .entry)) r ⌝ }
 {
@@ -49,9 +51,9 @@ pub fn walk(payload: &[u8]) -> Walked
     }
     let mut unread = payload.len();
     let mut frames: usize = 0;
-    let mut octets: usize = 0;
-    let mut ticks: u32 = 0;
-    let mut behind: u8 = 0;
+    let mut counts: usize = 0;
+    let mut marks: u32 = 0;
+    let mut behind: u32 = 0;
     while 0 < unread {
         let found = wire::step(&payload[..unread], behind);
         match found {
@@ -64,17 +66,54 @@ pub fn walk(payload: &[u8]) -> Walked
             Found::Got(shape) => {
                 unread -= shape.wire;
                 frames += 1;
-                octets += shape.body;
-                ticks += shape.ticks;
-                behind = shape.leaves;
+                counts += shape.count;
+                behind = shape.mark;
+                marks += behind;
+                if unread == 0 {
+                    break;
+                }
+                while 7 < unread {
+                    if !wire::is_like(payload[unread - 1], behind) {
+                        break;
+                    }
+                    unread -= 7;
+                    frames += 1;
+                    marks += behind;
+                }
             }
         }
     }
     Walked::Whole(Extent {
         frames,
-        octets,
-        ticks,
+        counts,
+        marks,
     })
+}
+
+// The octets that are of no count: those of bodies.
+fn uncounted(payload: &[u8], extent: Extent) -> usize
+    requires { ⌜ extent .counts ≤ length (now payload) ⌝ }
+    ensures { λ r. ⌜ r ≡ octetsIn (length (now (payload .entry))) extent ⌝ }
+{
+    payload.len() - extent.counts
+}
+
+// The octets of bodies in a payload that a walk went over; 0 where the counts are more than the payload's octets, which no walk
+// answers.
+pub fn octets_of(payload: &[u8], extent: Extent) -> usize
+    ensures { λ r. ⌜ r ≡ octetsIn (length (now (payload .entry))) extent ⌝ }
+{
+    if payload.len() < extent.counts {
+        return 0;
+    }
+    uncounted(payload, extent)
+}
+
+// The ticks of the frames that a walk went over.
+pub fn ticks_of(extent: Extent) -> u32
+    ensures { λ r. ⌜ r ≡ ticksIn extent ⌝ }
+{
+    extent.marks % 32768 * 6
 }
 
 // Copies len octets of src, from an index on, into dst at an index.
@@ -168,7 +207,7 @@ pub fn read(payload: &[u8], rows: &mut [u16], bodies: &mut [u8]) -> Reading
         Walked::Refused(refusal) => Reading::Refused(refusal),
         Walked::Whole(extent) => {
             let n = extent.frames;
-            let m = extent.octets;
+            let m = uncounted(payload, extent);
             if rows.len() / 2 < n {
                 return Reading::Refused(Refusal {
                     number: refusal::SHORT_LIST,

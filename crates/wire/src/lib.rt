@@ -4,7 +4,7 @@ ghost use Prim.Native.Nat.{_≤_, _<_};
 ghost use lib.ListN.{length};
 ghost use Rattle.wire.specs.Frame.{bps2400, bps1200, bps600, noise, tsvcis, ticksOfRate};
 ghost use Rattle.wire.specs.Walk.{named, counted, ending, lastFrame, foundOf, shapeOf};
-ghost use Rattle.wire.specs.Step.{plainShape, basedShape, fitShape, rated, noiseFound, otherFound, barred, ByKind, CountEnd, CountIs};
+ghost use Rattle.wire.specs.Step.{plainShape, basedShape, fitShape, fitted, rated, barred, isLike, CountEnd, CountIs};
 
 // The kind of a 2400 bps frame without augmentation, the commonest.
 pub const PLAIN_2400: u16 = 1;
@@ -15,24 +15,31 @@ pub const PLAIN_600: u16 = 3;
 // The octets of comfort noise.
 const NOISE_OCTETS: usize = 2;
 
-// The bits of the rates in `leaves`.
-const RATES: u8 = 7;
+// A frame's mark says what it is to the frames before it: what it lasts in units of six ticks, whose bits tell the rates
+// apart; 1200 bps and comfort noise have a bit of their own above those (32768 and 65536). One number serves the sum of the
+// ticks, the test of the rate and the test for a like frame.
+const MARK_2400: u32 = 30;
 
-// All bits of `leaves`.
-const ALL: u8 = 15;
+const MARK_1200: u32 = 32858;
 
-// A frame's numbers: kind and TC as in a row, octets of its base, rate code bits, the bit that it leaves for the frames
-// before it, ticks, octets on the wire and those of its body among them. The bit says what was read behind a frame: 1, 2 and
-// 4 a coder frame of 2400, 600 and 1200 bps, 8 comfort noise.
+const MARK_600: u32 = 120;
+
+const MARK_NOISE: u32 = 65536;
+
+// The bits of all rates' marks.
+const RATE_BITS: u32 = 32894;
+
+// A frame's numbers: kind and TC as in a row, octets of its base, rate code bits, mark, octets on the wire and those of its
+// body and of its count among them.
 pub struct Shape {
     pub kind: u16,
     pub tc: usize,
     pub size: usize,
     pub code: u8,
-    pub leaves: u8,
-    pub ticks: u32,
+    pub mark: u32,
     pub wire: usize,
     pub body: usize,
+    pub count: usize,
 }
 
 // What the unread octets end in: a refusal's number, or a frame.
@@ -66,43 +73,43 @@ pub fn ticks_of_rate(rate: u32) -> usize
 // ---- the shapes
 
 // A kind without augmentation, whose base is all that stands on the wire.
-fn plain(kind: u16, size: usize, code: u8, leaves: u8, ticks: u32) -> Shape
-    ensures { λ r. ⌜ r ≡ plainShape kind size code leaves ticks ⌝ }
+fn plain(kind: u16, size: usize, code: u8, mark: u32) -> Shape
+    ensures { λ r. ⌜ r ≡ plainShape kind size code mark ⌝ }
 {
     Shape {
         kind,
         tc: 0,
         size,
         code,
-        leaves,
-        ticks,
+        mark,
         wire: size,
         body: size,
+        count: 0,
     }
 }
 
 fn shape_2400() -> Shape
     ensures { λ r. ⌜ r ≡ shapeOf bps2400 0 ⌝ }
 {
-    plain(PLAIN_2400, 7, 0, 1, 180)
+    plain(PLAIN_2400, 7, 0, MARK_2400)
 }
 
 fn shape_1200() -> Shape
     ensures { λ r. ⌜ r ≡ shapeOf bps1200 0 ⌝ }
 {
-    plain(2, 11, 128, 4, 540)
+    plain(2, 11, 128, MARK_1200)
 }
 
 pub fn shape_600() -> Shape
     ensures { λ r. ⌜ r ≡ shapeOf bps600 0 ⌝ }
 {
-    plain(PLAIN_600, 7, 64, 2, 720)
+    plain(PLAIN_600, 7, 64, MARK_600)
 }
 
 fn shape_noise() -> Shape
     ensures { λ r. ⌜ r ≡ shapeOf noise 0 ⌝ }
 {
-    plain(4, NOISE_OCTETS, 160, 8, 0)
+    plain(4, NOISE_OCTETS, 160, MARK_NOISE)
 }
 
 // A TSVCIS frame of this TC, whose count takes `count` octets.
@@ -115,10 +122,10 @@ fn shape_tsvcis(tc: usize, count: usize) -> Shape
         tc,
         size: 7,
         code: 0,
-        leaves: 1,
-        ticks: 180,
+        mark: MARK_2400,
         wire: 7 + tc + count,
         body: 7 + tc,
+        count,
     }
 }
 
@@ -143,12 +150,13 @@ fn long_count(tc: usize) -> Found
     requires { ⌜ tc < 256 ⌝ }
     ensures { λ r. ⌜ r ≡ foundOf (counted tc) ⌝ }
 {
-    if tc < 15 {
-        if tc == 0 {
-            return Found::Bad(refusal::ZERO_COUNT);
+    if tc == 0 {
+        return Found::Bad(refusal::ZERO_COUNT);
+    }
+    if 14 < tc {
+        if tc <= 77 {
+            return Found::Bad(refusal::LONG_COUNT);
         }
-    } else if tc <= 77 {
-        return Found::Bad(refusal::LONG_COUNT);
     }
     Found::Got(shape_tsvcis(tc, 2))
 }
@@ -168,8 +176,7 @@ fn last_count(unread: &[u8], x: u8) -> Found
     long_count(wide(unread[n - 2]))
 }
 
-// The frame that the unread octets name by their end, whole or not. Here and in `by_kind` the order of the tests is for
-// speed alone.
+// The frame that the unread octets name by their end, whole or not. The order of the tests is for speed alone.
 pub fn name(unread: &[u8]) -> Found
     ensures { λ r. ⌜ r ≡ foundOf (ending (now (unread .entry)) (length (now (unread .entry)))) ⌝ }
 {
@@ -181,13 +188,13 @@ pub fn name(unread: &[u8]) -> Found
     if x < 64 {
         return Found::Got(shape_2400());
     }
-    if x < 128 {
-        return Found::Got(shape_600());
+    if x < 192 {
+        if x < 128 {
+            return Found::Got(shape_600());
+        }
+        return last_octet(x);
     }
-    if 191 < x {
-        return last_count(unread, x);
-    }
-    last_octet(x)
+    last_count(unread, x)
 }
 
 // ---- the walk's step: first what is asked of one kind alone, then what is asked of all
@@ -208,84 +215,55 @@ fn augmented_frame(unread: &[u8], shape: Shape) -> Found
     Found::Got(shape)
 }
 
-// The TSVCIS frame that a last octet x from 192 on names.
-fn tsvcis_frame(unread: &[u8], x: u8) -> Found
-    requires { ⌜ CountEnd (now unread) x ⌝ }
-    ensures { λ r. ⌜ r ≡ foundOf (lastFrame (now (unread .entry)) (length (now (unread .entry)))) ⌝ }
+// The frame that the unread octets end in, whole or not, with what TSVCIS alone is asked.
+fn last_frame(unread: &[u8]) -> Found
+    ensures { λ r. ⌜ fitted (length (now (unread .entry))) r ≡ foundOf (lastFrame (now (unread .entry)) (length (now (unread .entry)))) ⌝ }
 {
-    let found = last_count(unread, x);
+    let found = name(unread);
     match found {
         Found::Bad(number) => Found::Bad(number),
-        Found::Got(shape) => augmented_frame(unread, shape),
-    }
-}
-
-// Comfort noise at the end of n unread octets: it may only be last, with nothing read behind it.
-fn noise_frame(n: usize, behind: u8) -> Found
-    ensures { λ r. ⌜ r ≡ noiseFound n behind ⌝ }
-{
-    if n < NOISE_OCTETS {
-        return Found::Bad(refusal::CUT);
-    }
-    if behind & ALL != 0 {
-        return Found::Bad(refusal::NOISE_NOT_LAST);
-    }
-    Found::Got(shape_noise())
-}
-
-// The frame that a last octet x from 128 to 191 names, at the end of n unread octets.
-fn other_frame(n: usize, x: u8, behind: u8) -> Found
-    requires { ⌜ (128 ≤ x) × (x < 192) ⌝ }
-    ensures { λ r. ⌜ r ≡ otherFound n x behind ⌝ }
-{
-    if 159 < x {
-        return noise_frame(n, behind);
-    }
-    last_octet(x)
-}
-
-// The frame that the unread octets end in, with what its kind alone is asked.
-fn by_kind(unread: &[u8], behind: u8) -> Found
-    ensures { λ r. ⌜ ByKind (now (unread .entry)) (length (now (unread .entry))) behind r ⌝ }
-{
-    let n = unread.len();
-    if n == 0 {
-        return Found::Bad(refusal::CUT);
-    }
-    let x = unread[n - 1];
-    if x < 64 {
-        return Found::Got(shape_2400());
-    }
-    if x < 192 {
-        if x < 128 {
-            return Found::Got(shape_600());
+        Found::Got(shape) => {
+            if shape.tc == 0 {
+                return Found::Got(shape);
+            }
+            augmented_frame(unread, shape)
         }
-        return other_frame(n, x, behind);
     }
-    tsvcis_frame(unread, x)
 }
 
-// A frame at the end of n unread octets, whole, and not before a coder frame of another rate.
-fn admit(n: usize, shape: Shape, behind: u8) -> Found
+// A frame at the end of n unread octets, whole, and before none that bars it: comfort noise is last, and a coder frame stands
+// before none of another rate.
+fn admit(n: usize, shape: Shape, behind: u32) -> Found
     ensures { λ r. ⌜ r ≡ rated behind (fitShape n shape) ⌝ }
 {
     if n < shape.wire {
         return Found::Bad(refusal::CUT);
     }
-    if behind & (shape.leaves ^ RATES) == 0 {
+    if behind & (shape.mark ^ RATE_BITS) == 0 {
         return Found::Got(shape);
+    }
+    if shape.wire == NOISE_OCTETS {
+        return Found::Bad(refusal::NOISE_NOT_LAST);
     }
     Found::Bad(refusal::MIXED_RATES)
 }
 
-// The walk's step: the frame that the unread octets end in, where the frame behind it left the bit `behind` (0 where there
-// is none); or the refusal, in document 01's order.
-pub fn step(unread: &[u8], behind: u8) -> Found
+// The walk's step: the frame that the unread octets end in, where the frame behind it has the mark `behind` (0 where there is
+// none); or the refusal, in document 01's order.
+pub fn step(unread: &[u8], behind: u32) -> Found
     ensures { λ r. ⌜ r ≡ foundOf (barred behind (lastFrame (now (unread .entry)) (length (now (unread .entry))))) ⌝ }
 {
-    let found = by_kind(unread, behind);
+    let found = last_frame(unread);
     match found {
         Found::Bad(number) => Found::Bad(number),
         Found::Got(shape) => admit(unread.len(), shape, behind),
     }
+}
+
+// Whether a last octet x is that of a frame like the one behind it, whose mark is `mark`: of seven octets, without augmentation,
+// and of the same rate.
+pub fn is_like(x: u8, mark: u32) -> bool
+    ensures { λ r. ⌜ r ≡ isLike x mark ⌝ }
+{
+    (x as u32) ^ mark < 64
 }

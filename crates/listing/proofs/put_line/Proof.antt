@@ -16,6 +16,9 @@ slice-aggregate-put-row c = search needs
 wide-requires : tie.Need-wide-requires
 wide-requires c κs = search needs
 
+ticks-of-requires : tie.Need-ticks-of-requires
+ticks-of-requires c κs = search needs
+
 cast-put-row : tie.Need-cast-put-row
 cast-put-row c = search needs
 
@@ -41,13 +44,13 @@ same-length : tie.Need-same-length
 same-length c = search needs
 
 returns : tie.Need-returns
-returns c = let z = c .before .before .before .before .before .before .before .before .before .before .before .before .before in line-whole (z .args .out .now) (z .args .at) (z .args .n) (z .args .payload .now) (c .before .before .before .before .before .before .before .before .before .before .walk .ensures .answer) _ (c .before .before .before .before .before .before .before .before .walked .given .1) (c .before .before .before .before .wide .ensures) refl (c .before .before .put-row .ensures)
+returns c = let z = c .before .before .before .before .before .before .before .before .before .before .before .before .before in line-whole (z .args .out .now) (z .args .at) (z .args .n) (z .args .payload .now) (λ i. c .before .before .before .before .before .before .before .before .before .before .before .shared-slice-known .given i .fits) (c .before .before .before .before .before .before .before .before .before .before .walk .ensures .answer) _ (c .before .before .before .before .before .before .before .before .walked .given .1) (c .before .before .before .before .wide .ensures) (c .before .before .before .ticks-of .ensures) (c .before .before .put-row .ensures)
 
 same-length-2 : tie.Need-same-length-2
 same-length-2 c = search needs
 
 returns-2 : tie.Need-returns-2
-returns-2 c = let z = c .before .before .before .before .before .before .before .before .before .before .before .before .before in line-refused (z .args .out .now) (z .args .at) (z .args .n) (z .args .payload .now) (c .before .before .before .before .before .before .before .before .before .before .walk .ensures .answer) _ (c .before .before .before .before .before .before .before .before .walked2 .given .1) refl (c .before .before .before .wide2 .ensures) (c .before .before .put-row2 .ensures)
+returns-2 c = let z = c .before .before .before .before .before .before .before .before .before .before .before .before .before in line-refused (z .args .out .now) (z .args .at) (z .args .n) (z .args .payload .now) (λ i. c .before .before .before .before .before .before .before .before .before .before .before .shared-slice-known .given i .fits) (c .before .before .before .before .before .before .before .before .before .before .walk .ensures .answer) _ (c .before .before .before .before .before .before .before .before .walked2 .given .1) refl (c .before .before .before .wide2 .ensures) (c .before .before .put-row2 .ensures)
 
 pub put-line-spec : {M : Type 1} → statement M
 put-line-spec =
@@ -57,6 +60,7 @@ put-line-spec =
     enum-known-walked
     slice-aggregate-put-row
     wide-requires
+    ticks-of-requires
     cast-put-row
     put-row-requires
     enum-known-walked-2

@@ -3,8 +3,8 @@ use borrow.Author.Needs.{needs}
 use Rattle.wire.proofs.step.Statement.{statement}
 use Rattle.wire.proofs.step.Tie as tie
 
-by-kind-requires : tie.Need-by-kind-requires
-by-kind-requires c κs = search needs
+last-frame-requires : tie.Need-last-frame-requires
+last-frame-requires c κs = search needs
 
 enum-known-found : tie.Need-enum-known-found
 enum-known-found c = search needs
@@ -16,12 +16,12 @@ admit-requires : tie.Need-admit-requires
 admit-requires c κs = search needs
 
 returns : tie.Need-returns
-returns c = step-bad (c .before .before .before .by-kind .ensures) _ (c .before .found .given .1)
+returns c = step-bad _ _ _ _ (c .before .before .before .last-frame .ensures) _ (c .before .found .given .1)
 
 returns-2 : tie.Need-returns-2
-returns-2 c = step-got (c .before .before .before .before .by-kind .ensures) _ (c .before .before .found2 .given .1) (c .admit .ensures)
+returns-2 c = step-got _ _ _ _ (c .before .before .before .before .last-frame .ensures) _ (c .before .before .found2 .given .1) (c .admit .ensures)
 
 pub step-spec : {M : Type 1} → statement M
 step-spec =
     tie.close
-    (tie.spec by-kind-requires enum-known-found enum-known-found-2 admit-requires returns returns-2)
+    (tie.spec last-frame-requires enum-known-found enum-known-found-2 admit-requires returns returns-2)
