@@ -2,15 +2,14 @@
 use mathlib.Core.Path.{_≡_, refl, sym, ap, _∙_}
 use mathlib.Core.List.{List, [], _∷_, _++_, map, reverse}
 use Prim.Native.Nat.{ℕ, zero, suc, _+_, _-_, _*_, _/_, _%_, _^_, _≤_, _<_}
-use native.Mathlib.Nat.{mod-one, mod-eq-of-lt, mul-assoc, add-mul, mul-add-div-right, mul-add-mod-self-right, lt-of-lt-of-le}
-use native.Mathlib.Numerals.{add-one}
+use native.Mathlib.Nat.{mod-one, mod-eq-of-lt, mul-assoc, add-mul, mul-add-div-right, mul-add-mod-self-right}
 use native.Mathlib.Omega.{arith}
 use lib.ListN.{length, getD, take, drop, length-append, length-drop, length-map, length-reverse, take-append-drop}
 use lib.Arith.{digits-lt}
-use lib.Pow.{pow-pos, pow-mono, pow-add, mod-pow-add, high}
-use lib.Seq.{take-suc, take-all, length-take-le}
+use lib.Pow.{pow-pos, pow-add, mod-pow-add, high}
+use lib.Seq.{length-take-le}
 use Rattle.fields.specs.Bits.{Bits, digits, spelled, bitsOf, octetsOf}
-use Rattle.fields.specs.Words.{wordOf, octets, turn}
+use Rattle.fields.specs.Words.{wordOf, firstFour, lastThree, octets, turn}
 use Rattle.fields.proofs.Digits.{length-digits, bits-digits, spelled-lt, digits-spelled}
 use Rattle.fields.proofs.Octets.{bits-take, bits-drop, bits-reverse, length-bits}
 
@@ -79,41 +78,18 @@ octets-at zero v i left h e = absurd (omega arith)
 octets-at (suc n) v zero left h e = let q : 8 * n ≡ left = omega arith in ap (λ (k : ℕ). v / 2 ^ k % 256) q
 octets-at (suc n) v (suc i) left h e = octets-at n v i left (omega arith) (omega arith)
 
--- one octet more, behind the others
-word-snoc : (xs : List ℕ) (x : ℕ) → wordOf (xs ++ (x ∷ [])) ≡ wordOf xs * 256 + x
+-- the word of a body, from its first four octets and its last three
+pub word-seven : (xs : List ℕ) → length xs ≡ 7 → firstFour xs * 16777216 + lastThree xs ≡ wordOf xs
 unfolding wordOf
-word-snoc [] x = omega arith
-word-snoc (y ∷ xs) x =
-    let n : ℕ = length xs in
-    let l : 8 * length (xs ++ (x ∷ [])) ≡ 8 * n + 8 = simp length-append (omega arith) in
-    let p : y * 2 ^ (8 * length (xs ++ (x ∷ []))) ≡ y * 2 ^ (8 * n) * 256 =
-    ap (λ (k : ℕ). y * 2 ^ k) l ∙ simp (pow-add, mul-assoc) in
-    omega (arith, p, word-snoc xs x, add-mul (y * 2 ^ (8 * n)) (wordOf xs) 256)
-
--- the word of the octets so far
-pub record Joining (body : List ℕ) (word i : ℕ) : Type 0 where
-  pub upto : i ≤ 7
-  pub small : word < 2 ^ (8 * i)
-  pub joined : word ≡ wordOf (take i body)
-
-module _ (body : List ℕ) where
-  pub joining-start : Joining body 0 0
-  unfolding wordOf
-  joining-start = record { upto = omega arith; small = omega arith; joined = refl }
-
-  module _ (word i : ℕ) (j : Joining body word i) where
-    pub joining-step : length body ≡ 7 → i < 7 → getD body i 0 < 256 → Joining body (word * 256 + getD body i 0) (i + 1)
-    joining-step l lt h = record {
-      upto = omega arith;
-      small = rw (add-one i) (omega (arith, octet-more i, digits-lt (j .small) h));
-      joined = rw (add-one i, take-suc body i 0 (omega arith), word-snoc (take i body) (getD body i 0), j .joined);
-    }
-
-    pub joining-lt : i < 7 → word < 2 ^ 48
-    joining-lt lt = lt-of-lt-of-le (j .small) (pow-mono {i = 8 * i} {j = 48} (omega arith))
-
-    pub joining-end : length body ≡ 7 → i ≡ 7 → word ≡ wordOf body
-    joining-end l e = j .joined ∙ ap wordOf (take-all i body (omega arith))
+word-seven [] l = absurd (omega arith)
+word-seven (a ∷ []) l = absurd (omega arith)
+word-seven (a ∷ b ∷ []) l = absurd (omega arith)
+word-seven (a ∷ b ∷ c ∷ []) l = absurd (omega arith)
+word-seven (a ∷ b ∷ c ∷ d ∷ []) l = absurd (omega arith)
+word-seven (a ∷ b ∷ c ∷ d ∷ e ∷ []) l = absurd (omega arith)
+word-seven (a ∷ b ∷ c ∷ d ∷ e ∷ f ∷ []) l = absurd (omega arith)
+word-seven (a ∷ b ∷ c ∷ d ∷ e ∷ f ∷ g ∷ []) l = omega arith
+word-seven (a ∷ b ∷ c ∷ d ∷ e ∷ f ∷ g ∷ h ∷ xs) l = absurd (omega arith)
 
 pub spelled-append : (bs cs : List ℕ) → spelled (bs ++ cs) ≡ spelled bs * 2 ^ length cs + spelled cs
 unfolding spelled

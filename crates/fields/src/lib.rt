@@ -7,7 +7,7 @@ ghost use lib.Dec.{ltb};
 ghost use lib.ListN.{length, getD, drop};
 ghost use Rattle.fields.specs.Modes.{isMode, widthsOf, countOf};
 ghost use Rattle.fields.specs.Answers.{Unpacks, Packs};
-ghost use Rattle.fields.specs.Words.{wordOf, octets, turn, swap, Spells, Gathers};
+ghost use Rattle.fields.specs.Words.{wordOf, firstFour, lastThree, octets, turn, swap, Spells, Gathers};
 use refusal::FOREIGN_BITS;
 use refusal::LARGE_FIELD;
 use refusal::Refusal;
@@ -83,18 +83,36 @@ fn width_of(mode: u8, i: usize) -> u64
     WIDTHS[m][i] as u64
 }
 
+fn wide(x: u8) -> u32
+    ensures { λ r. ⌜ (r ≡ x) × (r < 256) ⌝ }
+{
+    x as u32
+}
+
+// The first four octets of a body as one number, the first the highest: as 32 bits of their own the compiler reads them at once.
+fn first_four(body: &[u8]) -> u32
+    requires { ⌜ length (now body) ≡ 7 ⌝ }
+    ensures { λ r. ⌜ r ≡ firstFour (now (body .entry)) ⌝ }
+{
+    wide(body[0]) * 16777216 + wide(body[1]) * 65536 + wide(body[2]) * 256 + wide(body[3])
+}
+
+// The last three likewise.
+fn last_three(body: &[u8]) -> u32
+    requires { ⌜ length (now body) ≡ 7 ⌝ }
+    ensures { λ r. ⌜ r ≡ lastThree (now (body .entry)) ⌝ }
+{
+    wide(body[4]) * 65536 + wide(body[5]) * 256 + wide(body[6])
+}
+
 // The octets of a body as one number, the first the highest.
 fn word_of(body: &[u8]) -> u64
     requires { ⌜ length (now body) ≡ 7 ⌝ }
     ensures { λ r. ⌜ r ≡ wordOf (now (body .entry)) ⌝ }
 {
-    let mut word: u64 = 0;
-    let mut i = 0;
-    while i < BODY_OCTETS {
-        word = word * 256 + body[i] as u64;
-        i += 1;
-    }
-    word
+    let high = first_four(body);
+    let low = last_three(body);
+    high as u64 * 16777216 + low as u64
 }
 
 // Swaps neighbouring groups of k bits: those of the first mask go down, those of the second up.

@@ -9,7 +9,7 @@ use lib.Dec.{ltb, eqb}
 use lib.ListN.{length, getD}
 use borrow.Author.Tests.{ne-eqb, eq-eqb, lt-ltb}
 use Rattle.wire.specs.Frame.{Frame, Kind, bps2400, bps1200, bps600, noise, tsvcis, countOf, rate, size, wireLength}
-use Rattle.wire.specs.Walk.{Ending, bad, got, ending, foreign, whole, lastFrame, late, clash, beside, seen, mark, rateBits, bars, shapeOf, foundOf}
+use Rattle.wire.specs.Walk.{Ending, bad, got, ending, foreign, whole, lastFrame, clash, beside, seen, mark, rateBits, bars, shapeOf, foundOf}
 use Rattle.wire.specs.Step.{left, barred, barredAs, barShape, fitShape, fitted, rated}
 use Rattle.wire.specs.declared.Shape.{Shape}
 use Rattle.wire.specs.declared.Found.{Found}

@@ -3,11 +3,11 @@ use mathlib.Core.Path.{_≡_, refl, sym, ap, _∙_}
 use mathlib.Core.List.{List, [], _∷_, _++_, append-assoc, append-nil}
 use Prim.Native.Nat.{ℕ, zero, suc, _+_, _-_, _≤_, _<_}
 use native.Mathlib.Omega.{arith}
-use lib.ListN.{length, getD, set, take, drop, length-append}
+use lib.ListN.{length, length-append}
 use lib.Seq.{drop-at, take-append-le}
 use borrow.Author.Tests.{le-ltb}
 use Rattle.wire.specs.Frame.{Frame, LegalFrame, size, wireLength, wire, octetsOf, OfRate, Stands, Legal}
-use Rattle.wire.specs.Walk.{Ending, lastFrame, beside, seen, turn, next, frameAt, run, readOf, Walk, at, refused}
+use Rattle.wire.specs.Walk.{Ending, lastFrame, beside, seen, turn, next, frameAt, run, readOf, at}
 use Rattle.wire.proofs.Tables.{size-pos}
 use Rattle.wire.proofs.Octets.{in-place, length-wire, wire-body}
 use Rattle.wire.proofs.InPlace.{InPlace, last-wire, beside-ok}

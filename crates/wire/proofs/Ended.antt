@@ -1,5 +1,5 @@
 -- What the walk's step says of the octets that it looked at.
-use mathlib.Core.Path.{_≡_, refl, sym, ap, _∙_}
+use mathlib.Core.Path.{_≡_, refl, sym, ap}
 use mathlib.Core.Logic.{_⊎_, inl, inr}
 use mathlib.Core.Bool.{Bool, true, false, cond}
 use mathlib.Core.List.{List, [], _∷_}
@@ -9,7 +9,7 @@ use lib.ListN.{length, getD}
 use borrow.Author.Tests.{lt-ltb, le-ltb, ltb-false}
 use Rattle.wire.specs.Frame.{Kind, bps2400, bps1200, bps600, noise, tsvcis, LegalTc, Octets, size, top, code, rate, countOf, wireLength}
 use Rattle.wire.specs.Walk.{Ending, bad, got, named, counted, ending, foreign, whole, lastFrame, late, clash, beside}
-use Rattle.wire.proofs.Tables.{below-or, Counts, short, long, counts, count-none, count-short, count-long, size-pos, wire-none}
+use Rattle.wire.proofs.Tables.{below-or, Counts, short, long, counts, count-none, count-short, count-long, size-pos}
 use Rattle.wire.proofs.Steps.{named-2400, named-600, named-1200, named-foreign, named-noise, named-short, counted-zero, counted-short, counted-long, ending-one, ending-two, ending-alone}
 
 -- ---- what the last octets name

@@ -8,7 +8,7 @@ use native.Mathlib.Omega.{arith}
 use lib.ListN.{length, getD}
 use borrow.Author.Tests.{le-ltb}
 use Rattle.wire.specs.Frame.{Frame, Kind, bps2400, bps1200, bps600, noise, tsvcis, LegalTc, size, top, code, rate, countOf, wireLength, wireOf, OfRate, Stands}
-use Rattle.wire.specs.Walk.{Ending, bad, got, named, ending, foreign, whole, lastFrame, seen, clash, beside}
+use Rattle.wire.specs.Walk.{got, named, ending, foreign, whole, lastFrame, seen, clash, beside}
 use Rattle.wire.proofs.Tables.{Counts, short, long, counts, count-short, count-long, size-pos, wire-none}
 use Rattle.wire.proofs.Octets.{wire-base, wire-count}
 use Rattle.wire.proofs.Steps.{named-2400, named-600, named-1200, named-noise, named-short, counted-long, ending-one, ending-two, clash-none, clash-same}

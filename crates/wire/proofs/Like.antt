@@ -8,7 +8,7 @@ use lib.Bits.{bitXor, xor-shr, xor-zero-r}
 use lib.ListN.{length, getD}
 use borrow.Author.Tests.{ltb-true, le-ltb}
 use Rattle.wire.specs.Frame.{Kind, bps2400, bps1200, bps600, noise, tsvcis, countOf, wireLength}
-use Rattle.wire.specs.Walk.{got, ending, whole, lastFrame, mark}
+use Rattle.wire.specs.Walk.{got, whole, lastFrame, mark}
 use Rattle.wire.specs.Step.{barred, isLike}
 use Rattle.wire.proofs.Steps.{named-2400, named-600, ending-one}
 

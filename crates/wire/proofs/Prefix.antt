@@ -4,10 +4,10 @@ use mathlib.Core.Logic.{_⊎_, inl, inr}
 use mathlib.Core.List.{List}
 use Prim.Native.Nat.{ℕ, _+_, _-_, _≤_, _<_}
 use native.Mathlib.Omega.{arith}
-use lib.ListN.{length, getD, take}
+use lib.ListN.{length, take}
 use lib.Seq.{length-take-le, getD-take}
 use borrow.Author.Tests.{lt-ltb}
-use Rattle.wire.specs.Frame.{Kind, size, wireLength}
+use Rattle.wire.specs.Frame.{size, wireLength}
 use Rattle.wire.specs.Walk.{Ending, bad, got, ending, whole, lastFrame}
 use Rattle.wire.proofs.Tables.{below-or, size-pos}
 use Rattle.wire.proofs.Steps.{ending-none}

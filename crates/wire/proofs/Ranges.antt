@@ -1,5 +1,5 @@
 -- What ranges the walk's answers keep to: refusals 1 to 8 at places 1 to 1,400; at most 200 frames.
-use mathlib.Core.Path.{_≡_, refl, sym, ap, _∙_, subst}
+use mathlib.Core.Path.{_≡_, refl, ap, _∙_, subst}
 use mathlib.Core.Logic.{_⊎_, inl, inr}
 use mathlib.Core.Bool.{Bool, true, false, cond}
 use mathlib.Core.List.{List, [], _∷_, _++_}
@@ -8,8 +8,8 @@ use native.Mathlib.Omega.{arith}
 use lib.Dec.{ltb}
 use lib.ListN.{length, getD, length-append}
 use borrow.Author.Tests.{lt-ltb, le-ltb}
-use Rattle.wire.specs.Frame.{Frame, Kind, bps2400, bps1200, bps600, noise, tsvcis, LegalFrame, size, rate, wireLength, wire, octetsOf, OfRate, Stands, Legal}
-use Rattle.wire.specs.Walk.{Ending, bad, got, named, counted, ending, foreign, whole, lastFrame, late, seen, clash, beside, turn, next, frameAt, run, readOf, Walk, at, refused}
+use Rattle.wire.specs.Frame.{Frame, Kind, bps2400, bps1200, bps600, noise, tsvcis, size, rate, wireLength, wire, octetsOf, OfRate, Stands, Legal}
+use Rattle.wire.specs.Walk.{Ending, bad, got, named, counted, ending, foreign, whole, lastFrame, late, seen, clash, beside, turn, next, run, readOf, Walk, at, refused}
 use Rattle.wire.proofs.Tables.{below-or, Counts, short, long, counts}
 use Rattle.wire.proofs.Steps.{named-2400, named-600, named-1200, named-foreign, named-noise, named-short, counted-zero, counted-short, counted-long, ending-none, ending-one, ending-two, ending-alone}
 use Rattle.wire.proofs.Octets.{length-wire}

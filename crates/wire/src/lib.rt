@@ -188,13 +188,13 @@ pub fn name(unread: &[u8]) -> Found
     if x < 64 {
         return Found::Got(shape_2400());
     }
-    if x < 192 {
-        if x < 128 {
-            return Found::Got(shape_600());
-        }
-        return last_octet(x);
+    if x < 128 {
+        return Found::Got(shape_600());
     }
-    last_count(unread, x)
+    if 191 < x {
+        return last_count(unread, x);
+    }
+    last_octet(x)
 }
 
 // ---- the walk's step: first what is asked of one kind alone, then what is asked of all

@@ -1,5 +1,4 @@
 use native.Mathlib.Omega.{arith}
-use mathlib.Core.Path.{refl, ap, sym, _∙_}
 use Rattle.wire.proofs.Shapes.{based-cut, based-foreign, based-got}
 use borrow.Author.Needs.{needs}
 use Rattle.wire.proofs.augmented_frame.Statement.{statement}

@@ -28,17 +28,17 @@ shape-600-requires c κs = search needs
 returns-3 : tie.Need-returns-3
 returns-3 c = ap Got (c .shape-600 .ensures) ∙ ap foundOf (sym (ending-one _ _ _ (omega arith) refl (omega arith) ∙ named-600 _ (omega arith) (omega arith)))
 
-last-octet-requires : tie.Need-last-octet-requires
-last-octet-requires c κs = search needs
-
-returns-4 : tie.Need-returns-4
-returns-4 c = c .last-octet .ensures ∙ ap foundOf (sym (ending-one _ _ _ (omega arith) refl (omega arith)))
-
 last-count-requires : tie.Need-last-count-requires
 last-count-requires c κs = record { some = omega arith; last = refl; high = omega arith }
 
+returns-4 : tie.Need-returns-4
+returns-4 c = c .last-count .ensures
+
+last-octet-requires : tie.Need-last-octet-requires
+last-octet-requires c κs = search needs
+
 returns-5 : tie.Need-returns-5
-returns-5 c = c .last-count .ensures
+returns-5 c = c .last-octet .ensures ∙ ap foundOf (sym (ending-one _ _ _ (omega arith) refl (omega arith)))
 
 pub name-spec : {M : Type 1} → statement M
 name-spec =
@@ -51,7 +51,7 @@ name-spec =
     returns-2
     shape-600-requires
     returns-3
-    last-octet-requires
-    returns-4
     last-count-requires
+    returns-4
+    last-octet-requires
     returns-5)
