@@ -5,7 +5,7 @@ use Prim.Native.Nat.{ℕ, _+_, _*_, _/_, _≤_, _<_}
 use native.Mathlib.Omega.{arith}
 use borrow.Author.Tests.{lt-ltb, le-ltb, eq-eqb, ne-eqb}
 use Rattle.refusal.specs.declared.Refusal.{Refusal}
-use Rattle.wire.specs.Frame.{Frame, ticksOfRate, Octets, Legal, octetsOf, ticksOf}
+use Rattle.wire.specs.Frame.{ticksOfRate, Octets, ticksOf}
 use Rattle.wire.specs.Walk.{readOf}
 use Rattle.payload.specs.Reading.{walkedOf, ticksIn}
 use Rattle.payload.specs.declared.Extent.{Extent}
@@ -13,7 +13,6 @@ use Rattle.payload.specs.declared.Walked.{Walked}
 use Rattle.payload.specs.declared.Walked.the-variants as walked
 use Rattle.payload.proofs.Seen.{went, ticks-seen, stopped, reads-it, none-gives}
 use Rattle.clock.specs.Time.{packetTicks, packetReport, PacketTime, ptimeOf, noPtime}
-use Rattle.clock.specs.declared.PacketTicks.{PacketTicks}
 use Rattle.clock.specs.declared.PacketTicks.the-variants as packet
 use Rattle.clock.specs.declared.PacketMillis.the-variants as settings
 

@@ -1,15 +1,12 @@
 -- Document 01, "Time on the clock and time in settings".
 use mathlib.Core.Path.{_≡_}
 use mathlib.Core.Bool.{cond}
-use mathlib.Core.List.{List, []}
+use mathlib.Core.List.{List}
 use Prim.Native.Nat.{ℕ, _+_, _*_, _/_}
 use lib.Dec.{eqb, ltb}
 use Rattle.refusal.specs.Numbers.{unknownKind}
-use Rattle.refusal.specs.declared.Refusal.{Refusal}
 use Rattle.wire.specs.Frame.{Frame, Legal, octetsOf, ticksOf, ticksOfRate}
 use Rattle.wire.specs.Walk.{Walk, at, refused, readOf}
-use Rattle.clock.specs.declared.Ticks.{Ticks}
-use Rattle.clock.specs.declared.Millis.{Millis}
 use Rattle.clock.specs.declared.PacketTicks.{PacketTicks}
 use Rattle.clock.specs.declared.PacketTicks.the-variants as packet
 use Rattle.clock.specs.declared.PacketMillis.{PacketMillis}

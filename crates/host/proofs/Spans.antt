@@ -1,5 +1,5 @@
 -- The reader's answer and the views' parts, as the structs have them.
-use mathlib.Core.Path.{_≡_, refl, sym, ap, _∙_}
+use mathlib.Core.Path.{_≡_, sym, ap, _∙_}
 use mathlib.Core.List.{List}
 use Prim.Native.Nat.{ℕ, _+_, _-_, _≤_}
 use native.Mathlib.Omega.{arith}
@@ -8,16 +8,14 @@ use lib.ListN.{length, take, drop, length-drop}
 use lib.Seq.{length-take-le}
 use Rattle.views.specs.declared.Sizes.{Sizes}
 use Rattle.wire.specs.Walk.{readOf}
-use Rattle.payload.specs.Reading.{reportOf, readInto, Outcome}
+use Rattle.payload.specs.Reading.{reportOf}
 use Rattle.payload.specs.Promise.{Reads}
 use Rattle.payload.specs.declared.Reading.{Reading}
-use Rattle.views.specs.View.{placeOf, augmentationOf, frameOr, Part}
+use Rattle.views.specs.View.{placeOf, augmentationOf, frameOr}
 use Rattle.views.specs.declared.Place.{Place}
 use Rattle.views.specs.declared.Place.the-variants.{At, Missing}
 use Rattle.views.proofs.Shown.{Within, augmented, not-augmented}
 use Rattle.host.specs.Host.{HostReads, readingOf, lent, spanOf}
-use Rattle.host.specs.declared.MoultReading.{MoultReading}
-use Rattle.host.specs.declared.MoultPart.{MoultPart}
 
 pub host-reads : (p r b : List ℕ) (a : Reading) (r′ b′ : List ℕ) → Reads p r b a r′ b′ → {c : Reading} → a ≡ c → HostReads p r b (readingOf (reportOf c)) r′ b′
 host-reads p r b a r′ b′ h e = record {

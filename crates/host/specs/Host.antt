@@ -6,7 +6,7 @@ use lib.IntN.{ℤ, pos, negℤ}
 use lib.ListN.{length}
 use Rattle.wire.specs.Frame.{Frame, Legal, octetsOf}
 use Rattle.wire.specs.Walk.{Walk, at, refused, readOf}
-use Rattle.payload.specs.Reading.{Report, reportOf, readInto, Outcome}
+use Rattle.payload.specs.Reading.{Report, reportOf, readInto}
 use Rattle.payload.specs.Promise.{Demand}
 use Rattle.clock.specs.Time.{TimeReport}
 use Rattle.views.specs.View.{Part}

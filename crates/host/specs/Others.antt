@@ -13,7 +13,6 @@ use Rattle.fmtp.specs.declared.Written.{Written}
 use Rattle.fields.specs.Answers.{Outcome, unpackedAs, packedAs, Unpacks, Packs}
 use Rattle.fields.specs.declared.Unpacked.{Unpacked}
 use Rattle.fields.specs.declared.Packed.{Packed}
-use Rattle.host.specs.declared.MoultSettings.{MoultSettings}
 use Rattle.host.specs.declared.MoultParsed.{MoultParsed}
 use Rattle.host.specs.declared.MoultWriting.{MoultWriting}
 

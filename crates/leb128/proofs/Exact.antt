@@ -9,7 +9,7 @@ use native.Mathlib.Numerals.{add-one}
 use native.Mathlib.Omega.{arith}
 use lib.ListN.{getD}
 use borrow.Author.Tests.{lt-ltb, le-ltb}
-use Rattle.leb128.specs.Number.{groupsOf, Within, Partial, lastGroup, moreGroups, stepOf, Head, number, short, none, headFrom, headOf}
+use Rattle.leb128.specs.Number.{groupsOf, Within, Partial, lastGroup, moreGroups, stepOf, Head, number, none, headFrom, headOf}
 use Rattle.leb128.specs.declared.Group.{Group}
 use Rattle.leb128.specs.declared.Group.the-variants.{More, Last, Bad}
 use Rattle.leb128.proofs.Steps.{below-or, held-more, last-zero, last-nought, last-over, last-right, more-right, more-many, step-last, step-more}

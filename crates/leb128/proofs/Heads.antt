@@ -1,15 +1,14 @@
 -- What the loop that reads a number at an index keeps.
 use mathlib.Core.Path.{_≡_, refl, sym, ap, _∙_}
-use mathlib.Core.List.{List, [], _∷_}
-use Prim.Native.Nat.{ℕ, zero, suc, _+_, _-_, _≤_, _<_}
+use mathlib.Core.List.{List}
+use Prim.Native.Nat.{ℕ, suc, _+_, _-_, _≤_, _<_}
 use native.Mathlib.Numerals.{add-one}
 use native.Mathlib.Omega.{arith}
 use lib.ListN.{length, getD, drop, length-drop, drop-of-length-le}
 use lib.Seq.{drop-cons}
-use Rattle.leb128.specs.Number.{stepOf, Head, number, short, none, headFrom, headOf, foundOf, foundAt}
+use Rattle.leb128.specs.Number.{stepOf, Head, number, none, headFrom, headOf, foundOf, foundAt}
 use Rattle.leb128.specs.declared.Group.{Group}
 use Rattle.leb128.specs.declared.Group.the-variants.{More, Last, Bad}
-use Rattle.leb128.specs.declared.Found.{Found}
 use Rattle.leb128.specs.declared.Found.the-variants as found
 use Rattle.leb128.proofs.Steps.{more-few}
 

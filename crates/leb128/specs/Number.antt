@@ -1,5 +1,4 @@
 -- Numbers in groups of seven bits (document 01, "The listing"): a number's octets said forwards, and one step of reading them.
-use mathlib.Core.Path.{_≡_}
 use mathlib.Core.Bool.{cond, _&&_}
 use mathlib.Core.List.{List, [], _∷_}
 use Prim.Native.Nat.{ℕ, zero, suc, _+_, _-_, _*_, _/_, _%_, _^_, _≤_, _<_}

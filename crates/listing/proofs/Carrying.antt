@@ -1,25 +1,22 @@
 -- What the loop that takes a part of the input keeps: the octets taken so far give what is written, and where they end.
 use mathlib.Core.Path.{_≡_, refl, sym, ap, _∙_}
 use mathlib.Core.Bool.{Bool, true, false, cond, _&&_}
-use mathlib.Core.List.{List, [], _∷_, _++_, append-assoc, append-nil}
+use mathlib.Core.List.{List, [], _∷_, _++_, append-nil}
 use Prim.Native.Nat.{ℕ, zero, suc, _+_, _-_, _≤_, _<_, min}
-use native.Mathlib.Nat.{min-eq-left, min-eq-right}
-use native.Mathlib.Numerals.{add-one}
 use native.Mathlib.Omega.{arith}
-use lib.ListN.{length, getD, take, drop, length-take, length-drop}
-use lib.Seq.{paste, take-suc, take-add, take-all, take-length, length-take-le, length-paste, take-paste, drop-paste, drop-drop, drop-cons}
+use lib.ListN.{length, getD, take, drop, length-drop}
+use lib.Seq.{paste, take-add, take-all, length-take-le, length-paste, take-paste, drop-paste, drop-drop, drop-cons}
 use lib.Dec.{ltb, leb}
 use borrow.Author.Tests.{lt-ltb, le-ltb, le-leb, lt-leb}
-use Rattle.leb128.specs.Number.{stepOf, moreGroups, lastGroup}
+use Rattle.leb128.specs.Number.{stepOf}
 use Rattle.leb128.specs.declared.Group.{Group}
 use Rattle.leb128.specs.declared.Group.the-variants.{More, Last, Bad}
 use Rattle.leb128.proofs.Steps.{more-few, last-most}
 use Rattle.listing.specs.Line.{payloadLine, endLine, cutLine}
-use Rattle.listing.specs.Listing.{Position, inLength, inPayload, broken, Turn, silent, emit, grouped, begin, next, behind, run, lastLine, following}
+use Rattle.listing.specs.Listing.{Position, inLength, inPayload, broken, Turn, silent, emit, grouped, begin, behind, run, lastLine, following}
 use Rattle.listing.specs.Carried.{positionOf, Goes, Puts, placeOf, Ready, endsAt}
 use Rattle.listing.specs.declared.Phase.{Phase}
 use Rattle.listing.specs.declared.Phase.the-variants as phase
-use Rattle.listing.specs.declared.State.{State}
 use Rattle.listing.specs.declared.Progress.{Progress}
 use Rattle.payload.proofs.Stored.{length-put}
 use Rattle.listing.proofs.Puts.{take-put, drop-put}

@@ -1,7 +1,7 @@
 -- What stands at an index, as the code's branches ask for it; and a payload that stands there is found.
 use mathlib.Core.Path.{_≡_, refl, sym, ap, _∙_}
-use mathlib.Core.List.{List, [], _∷_, _++_}
-use Prim.Native.Nat.{ℕ, zero, suc, _+_, _-_, _≤_, _<_}
+use mathlib.Core.List.{List, _++_}
+use Prim.Native.Nat.{ℕ, _+_, _-_, _≤_, _<_}
 use native.Mathlib.Omega.{arith}
 use lib.ListN.{length, drop, length-append, length-drop}
 use borrow.Author.Tests.{lt-ltb, le-ltb}
@@ -10,7 +10,6 @@ use Rattle.leb128.specs.declared.Found.{Found}
 use Rattle.leb128.specs.declared.Found.the-variants as found
 use Rattle.listing.specs.Listing.{entry}
 use Rattle.listing.specs.Entries.{wholeAt, entryOf, payloadAt}
-use Rattle.listing.specs.declared.Entry.{Entry}
 use Rattle.listing.specs.declared.Entry.the-variants as stands
 use Rattle.listing.proofs.Forward.{entry-head}
 

@@ -1,8 +1,7 @@
 -- The listing is what the paper's words say, line by line: `Lists` holds of an input and its listing, and of no other output.
-use mathlib.Core.Path.{_≡_, refl, sym, ap, _∙_, subst}
+use mathlib.Core.Path.{_≡_, refl, sym, ap, _∙_}
 use mathlib.Core.Logic.{_⊎_, inl, inr}
-use mathlib.Core.Bool.{cond}
-use mathlib.Core.List.{List, [], _∷_, _++_, append-assoc, append-nil}
+use mathlib.Core.List.{List, [], _∷_, _++_, append-assoc}
 use Prim.Native.Nat.{ℕ, zero, suc, _+_, _-_, _≤_, _<_}
 use native.Mathlib.Omega.{arith}
 use lib.ListN.{length, getD, take, drop, length-append, take-append-drop}
@@ -13,8 +12,8 @@ use Rattle.leb128.specs.declared.Group.{Group}
 use Rattle.leb128.specs.declared.Group.the-variants.{More, Last, Bad}
 use Rattle.leb128.proofs.Steps.{below-or}
 use Rattle.leb128.proofs.Exact.{complete, sound}
-use Rattle.listing.specs.Line.{payloadLine, endLine, cutLine}
-use Rattle.listing.specs.Listing.{following, entry, Lists, ends, lists, cuts, Position, inLength, inPayload, broken, Turn, silent, emit, begin, grouped, next, behind, run, lastLine, closed, listing}
+use Rattle.listing.specs.Line.{payloadLine, cutLine}
+use Rattle.listing.specs.Listing.{following, entry, Lists, ends, lists, cuts, inLength, inPayload, broken, Turn, silent, begin, grouped, behind, run, lastLine, closed, listing}
 use Rattle.listing.proofs.Runs.{run-append, run-broken, run-part, run-whole}
 
 -- ---- what stands at the start of the input

@@ -1,9 +1,9 @@
 -- Any cutting of an input into parts joins to its listing.
-use mathlib.Core.Path.{_≡_, refl, sym, ap, _∙_}
-use mathlib.Core.List.{List, [], _∷_, _++_, append-assoc}
-use Prim.Native.Nat.{ℕ, _≤_}
-use lib.ListN.{length, take, drop, take-append-drop}
-use Rattle.listing.specs.Listing.{Position, Turn, behind, run, lastLine, closed, listing}
+use mathlib.Core.Path.{_≡_, sym, ap, _∙_}
+use mathlib.Core.List.{List, _++_, append-assoc}
+use Prim.Native.Nat.{ℕ}
+use lib.ListN.{take, drop, take-append-drop}
+use Rattle.listing.specs.Listing.{run, lastLine, closed, listing}
 use Rattle.listing.specs.Carried.{fresh, positionOf, Goes, Calls, last, call}
 use Rattle.listing.specs.declared.State.{State}
 use Rattle.listing.specs.declared.Progress.{Progress}

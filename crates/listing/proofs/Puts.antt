@@ -1,11 +1,11 @@
 -- Laws of `put`: octets that are stored one after another.
-use mathlib.Core.Path.{_≡_, refl, sym, ap, _∙_}
+use mathlib.Core.Path.{_≡_, sym, ap, _∙_}
 use mathlib.Core.List.{List, [], _∷_, _++_, append-assoc}
-use Prim.Native.Nat.{ℕ, zero, suc, _+_, _≤_, _<_}
+use Prim.Native.Nat.{ℕ, suc, _+_, _≤_, _<_}
 use native.Mathlib.Numerals.{add-one}
 use native.Mathlib.Omega.{arith}
 use lib.ListN.{length, set, take, drop, length-append}
-use lib.Seq.{set-split, length-take-le, take-at, drop-at, drop-append-le, drop-drop, append-snoc}
+use lib.Seq.{set-split, length-take-le, take-at, drop-at, drop-drop, append-snoc}
 use Rattle.payload.specs.Filling.{put}
 use Rattle.payload.proofs.Stored.{length-put}
 use Rattle.listing.specs.Carried.{Puts}

@@ -1,7 +1,6 @@
 -- Document 01's input gives its four lines, and the empty input its one line, by computation.
 use mathlib.Core.Path.{_≡_, refl}
-use mathlib.Core.List.{List, [], _∷_, _++_}
-use Prim.Native.Nat.{ℕ}
+use mathlib.Core.List.{[], _∷_}
 use Rattle.wire.specs.Frame.{countOf}
 use Rattle.wire.specs.Walk.{named, counted, ending, whole, lastFrame, clash, beside, readOf}
 use Rattle.leb128.specs.Number.{lastGroup, moreGroups, stepOf}

@@ -7,7 +7,7 @@ use lib.Dec.{ltb, leb, eqb}
 use lib.ListN.{length, take, drop}
 use Rattle.refusal.specs.Numbers.{shortBuffer}
 use Rattle.payload.specs.Filling.{put}
-use Rattle.listing.specs.Listing.{mostOctets, Position, inLength, inPayload, broken, Turn, run, lastLine}
+use Rattle.listing.specs.Listing.{mostOctets, Position, inLength, inPayload, broken, run, lastLine}
 use Rattle.listing.specs.declared.Phase.{Phase}
 use Rattle.listing.specs.declared.Phase.the-variants as phase
 use Rattle.listing.specs.declared.State.{State}

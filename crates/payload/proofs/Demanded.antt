@@ -1,19 +1,19 @@
 -- Demand 3 holds of the definition of reading; and the reading, case by case, as the code's branches ask for it.
 use mathlib.Core.Path.{_≡_, refl, sym, ap, _∙_}
 use mathlib.Core.Logic.{_⊎_, inl, inr}
-use mathlib.Core.List.{List, [], _∷_, _++_}
-use Prim.Native.Nat.{ℕ, zero, suc, _+_, _-_, _*_, _/_, _≤_, _<_}
+use mathlib.Core.List.{List, [], _∷_}
+use Prim.Native.Nat.{ℕ, _-_, _/_, _≤_, _<_}
 use native.Mathlib.Omega.{arith}
-use lib.ListN.{length, drop}
+use lib.ListN.{length}
 use borrow.Author.Tests.{lt-ltb, le-ltb}
 use Rattle.refusal.specs.declared.Refusal.{Refusal}
-use Rattle.wire.specs.Frame.{Frame, Octets, Legal, octetsOf, rowsOf, bodiesOf}
+use Rattle.wire.specs.Frame.{Frame, Octets, Legal, octetsOf, bodiesOf}
 use Rattle.wire.specs.Walk.{Walk, at, refused, readOf}
 use Rattle.wire.proofs.Tables.{below-or}
 use Rattle.wire.proofs.Complete.{unique}
 use Rattle.wire.proofs.Ranges.{frames-most}
-use Rattle.payload.specs.Reading.{refuse, octetsIn, walkedOf, Outcome, kept, handedOut, settle, readInto, Report, reportOf}
-use Rattle.payload.specs.Promise.{Room, HandedBack, Unchanged, Demand, Reads}
+use Rattle.payload.specs.Reading.{refuse, octetsIn, walkedOf, Outcome, kept, handedOut, settle, readInto, reportOf}
+use Rattle.payload.specs.Promise.{Room, HandedBack, Demand, Reads}
 use Rattle.payload.specs.Filling.{Known}
 use Rattle.payload.proofs.Seen.{View as Seen, over, not, view as seen, Accepted, went, stopped, reads-it, octets-left}
 use Rattle.payload.specs.declared.Extent.{Extent}

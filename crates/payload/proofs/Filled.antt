@@ -1,12 +1,12 @@
 -- What the loop that fills rows and bodies keeps.
 use mathlib.Core.Path.{_≡_, refl, sym, ap, _∙_}
 use mathlib.Core.List.{List, [], _∷_, _++_, append-assoc}
-use Prim.Native.Nat.{ℕ, zero, suc, _+_, _-_, _*_, _/_, _≤_, _<_}
+use Prim.Native.Nat.{ℕ, _+_, _-_, _*_, _/_, _≤_}
 use native.Mathlib.Omega.{arith}
 use lib.ListN.{length, getD, set, take, drop, length-set, length-append, take-append-drop}
 use borrow.Author.Tests.{le-ltb}
 use Rattle.wire.specs.Frame.{Frame, Kind, Octets, number, size, code, wireLength, rowsOf, bodiesOf}
-use Rattle.wire.specs.Walk.{got, ending, frameAt, run, readOf, Walk, at, shapeOf, foundOf}
+use Rattle.wire.specs.Walk.{ending, frameAt, run, readOf, at, shapeOf, foundOf}
 use Rattle.wire.specs.declared.Shape.{Shape}
 use Rattle.wire.specs.declared.Found.{Found}
 use Rattle.wire.specs.declared.Found.the-variants.{Bad, Got}
@@ -14,7 +14,7 @@ use Rattle.wire.proofs.Complete.{stay}
 use Rattle.wire.proofs.Ended.{Whole}
 use Rattle.wire.proofs.Sound.{length-base}
 use Rattle.payload.specs.Reading.{settle, readInto}
-use Rattle.payload.specs.Filling.{put, bodyAt, BodyFits, FrameFits, Known}
+use Rattle.payload.specs.Filling.{put, bodyAt, FrameFits, Known}
 use Rattle.payload.proofs.Held.{Sized, sized}
 use Rattle.payload.proofs.Onward.{Onward, onward, onward-bad, onward-shape, onward-whole, grows, read-run}
 use Rattle.payload.proofs.Stored.{rows-back, body-back, length-put}

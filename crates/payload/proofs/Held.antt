@@ -1,5 +1,5 @@
 -- What the loop that walks a payload keeps: it is at a state of the walk, and holds the numbers of the frames read.
-use mathlib.Core.Path.{_≡_, refl, sym, ap, _∙_, subst}
+use mathlib.Core.Path.{_≡_, refl, sym, ap, _∙_}
 use mathlib.Core.Bool.{Bool, true, false, cond}
 use mathlib.Core.List.{List, [], _∷_}
 use Prim.Native.Nat.{ℕ, zero, suc, _+_, _-_, _*_, _≤_, _<_}
@@ -9,14 +9,14 @@ use lib.Dec.{eqb}
 use lib.ListN.{length, getD, take}
 use borrow.Author.Tests.{lt-ltb, le-ltb}
 use Rattle.wire.specs.Frame.{Frame, Kind, bps2400, bps1200, bps600, noise, tsvcis, LegalTc, Octets, number, size, countOf, wireLength}
-use Rattle.wire.specs.Walk.{Ending, bad, got, lastFrame, mark, bars, turn, next, frameAt, run, readOf, Walk, at, refused, shapeOf, foundOf}
+use Rattle.wire.specs.Walk.{Ending, bad, got, lastFrame, mark, bars, turn, next, frameAt, run, readOf, at, shapeOf, foundOf}
 use Rattle.wire.specs.Step.{left, barred, barredAs, isLike}
 use Rattle.wire.specs.declared.Shape.{Shape}
 use Rattle.wire.specs.declared.Found.{Found}
 use Rattle.wire.specs.declared.Found.the-variants.{Bad, Got}
 use Rattle.wire.proofs.Tables.{size-pos, tc-most}
 use Rattle.wire.proofs.Barred.{beside-barred}
-use Rattle.wire.proofs.Like.{Like, like}
+use Rattle.wire.proofs.Like.{like}
 use Rattle.wire.proofs.Complete.{next-at, stay}
 use Rattle.wire.proofs.Ended.{Whole, Wholes, last-says}
 use Rattle.wire.proofs.Sound.{run-refused}

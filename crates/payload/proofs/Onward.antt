@@ -2,22 +2,22 @@
 use mathlib.Core.Path.{_≡_, refl, sym, ap, _∙_}
 use mathlib.Core.Logic.{_⊎_, inl, inr}
 use mathlib.Core.List.{List, [], _∷_}
-use Prim.Native.Nat.{ℕ, zero, suc, _+_, _-_, _≤_, _<_}
+use Prim.Native.Nat.{ℕ, zero, suc, _-_, _≤_, _<_}
 use native.Mathlib.Omega.{arith}
 use lib.ListN.{length, take, length-append}
 use borrow.Author.Tests.{lt-ltb, le-ltb}
 use Rattle.wire.specs.Frame.{Frame, Kind, Octets, wireLength, bodiesOf}
-use Rattle.wire.specs.Walk.{Ending, bad, got, ending, lastFrame, beside, seen, turn, next, frameAt, run, readOf, Walk, at, refused, shapeOf, foundOf}
+use Rattle.wire.specs.Walk.{Ending, bad, got, ending, lastFrame, beside, seen, turn, next, frameAt, run, readOf, at, shapeOf, foundOf}
 use Rattle.wire.specs.declared.Shape.{Shape}
 use Rattle.wire.specs.declared.Found.{Found}
 use Rattle.wire.specs.declared.Found.the-variants.{Bad, Got}
 use Rattle.wire.proofs.Tables.{below-or, size-pos}
 use Rattle.wire.proofs.Steps.{beside-got, last-got}
 use Rattle.wire.proofs.Complete.{next-at}
-use Rattle.wire.proofs.Ended.{Whole, Wholes, last-says}
+use Rattle.wire.proofs.Ended.{Whole, last-says}
 use Rattle.wire.proofs.Sound.{run-refused}
 use Rattle.wire.proofs.Prefix.{ending-take}
-use Rattle.wire.proofs.Shapes.{Shaped, shaped, bad-is}
+use Rattle.wire.proofs.Shapes.{shaped, bad-is}
 use Rattle.payload.proofs.Seen.{differ}
 
 pub read-run : (p : List ℕ) (fs : List Frame) → readOf p ≡ at 0 fs → run (length p) p (at (length p) []) ≡ at 0 fs

@@ -4,7 +4,7 @@ use mathlib.Core.List.{List, [], _++_}
 use Prim.Native.Nat.{ℕ, _*_, _≤_}
 use lib.ListN.{length, drop}
 use Rattle.wire.specs.Frame.{Frame, Legal, octetsOf, rowsOf, bodiesOf}
-use Rattle.payload.specs.Reading.{readInto, Outcome, Report, reportOf}
+use Rattle.payload.specs.Reading.{readInto, Report, reportOf}
 use Rattle.payload.specs.declared.Reading.{Reading}
 
 -- "The room is too small exactly if the number list is shorter than 2n or the octet buffer shorter than m"

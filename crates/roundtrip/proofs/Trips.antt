@@ -1,5 +1,5 @@
 -- Reading and writing undo each other: the two round trips over the definitions, and what the code's branches ask.
-use mathlib.Core.Path.{_≡_, refl, sym, ap, _∙_, subst}
+use mathlib.Core.Path.{_≡_, refl, sym, ap, _∙_}
 use mathlib.Core.Logic.{_⊎_, inl, inr}
 use mathlib.Core.Bool.{Bool, true}
 use mathlib.Core.List.{List, [], _∷_, _++_}
@@ -9,11 +9,11 @@ use lib.ListN.{length, take, drop, length-append}
 use lib.Seq.{take-at}
 use Rattle.refusal.specs.declared.Refusal.{Refusal}
 use Rattle.wire.specs.Frame.{Frame, Octets, Legal, octetsOf, rowsOf, bodiesOf}
-use Rattle.wire.specs.Walk.{at, readOf}
+use Rattle.wire.specs.Walk.{at}
 use Rattle.wire.proofs.Tables.{below-or}
 use Rattle.wire.proofs.Ranges.{frames-most}
-use Rattle.payload.specs.Reading.{readInto, Outcome, settle, kept, handedOut, refuse, reportOf}
-use Rattle.payload.specs.Promise.{Room, Reads, HandedBack}
+use Rattle.payload.specs.Reading.{readInto, Outcome, settle, kept, refuse, reportOf}
+use Rattle.payload.specs.Promise.{Room, Reads}
 use Rattle.payload.specs.declared.Reading.{Reading}
 use Rattle.payload.specs.declared.Reading.the-variants as reading
 use Rattle.payload.proofs.Seen.{reads-it}
@@ -21,7 +21,7 @@ use Rattle.payload.proofs.Demanded.{hands-out, settle-few, settle-short, settle
 use Rattle.writer.specs.Write.{writeOf, outOf, wrote, refuses}
 use Rattle.writer.specs.Write.{Outcome as Writing}
 use Rattle.writer.specs.Answers.{answerOf}
-use Rattle.writer.specs.Promise.{Describe, Writes}
+use Rattle.writer.specs.Promise.{Writes}
 use Rattle.writer.specs.declared.Writing.{Writing as Answer}
 use Rattle.writer.specs.declared.Writing.the-variants.{Written, Refused}
 use Rattle.writer.proofs.Trips.{writes-legal, writes-short, written-legal}

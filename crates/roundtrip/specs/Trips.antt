@@ -5,7 +5,7 @@ use mathlib.Core.List.{List}
 use Prim.Native.Nat.{ℕ, _*_}
 use lib.ListN.{length, take}
 use Rattle.wire.specs.Frame.{Frame, Legal, octetsOf, rowsOf, bodiesOf}
-use Rattle.payload.specs.Reading.{readInto, Outcome}
+use Rattle.payload.specs.Reading.{readInto}
 use Rattle.payload.specs.declared.Reading.{Reading}
 use Rattle.payload.specs.declared.Reading.the-variants as reading
 use Rattle.writer.specs.Write.{writeOf, outOf, wrote, refuses}

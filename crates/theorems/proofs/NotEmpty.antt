@@ -4,8 +4,6 @@ use mathlib.Core.List.{List, [], _∷_}
 use Prim.Native.Nat.{ℕ, _+_, _≤_}
 use native.Mathlib.Omega.{arith}
 use lib.IntN.{pos}
-use lib.ListN.{length}
-use Rattle.refusal.specs.declared.Refusal.{Refusal}
 use Rattle.wire.specs.Frame.{Frame, Kind, bps2400, bps1200, bps600, noise, tsvcis, ticks, ticksOf, Octets, Stands, Legal, countOf, octetsOf}
 use Rattle.wire.specs.Walk.{Walk, at, refused, named, counted, ending, whole, lastFrame, clash, beside, readOf}
 use Rattle.wire.proofs.Ranges.{in-range, frames-most}

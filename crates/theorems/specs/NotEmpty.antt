@@ -4,7 +4,7 @@ use mathlib.Core.List.{List, [], _∷_}
 use Prim.Native.Nat.{ℕ}
 use Rattle.wire.specs.Frame.{Frame, Legal, noise, octetsOf}
 use Rattle.wire.specs.Walk.{readOf}
-use Rattle.payload.specs.Reading.{readInto, Outcome}
+use Rattle.payload.specs.Reading.{readInto}
 use Rattle.clock.specs.Time.{packetTicks}
 use Rattle.listing.specs.Line.{payloadLine}
 use Rattle.host.specs.Host.{hostCount}

@@ -1,20 +1,19 @@
 -- What is shown of a row, by legal sequences: its frame's own octets, and its augmentation, where they stand.
 use mathlib.Core.Path.{_≡_, refl, sym, ap, _∙_, subst}
-use mathlib.Core.Logic.{_⊎_, inl, inr}
 use mathlib.Core.List.{List, [], _∷_, _++_, append-assoc, append-nil}
-use Prim.Native.Nat.{ℕ, zero, suc, _+_, _-_, _≤_, _<_}
+use Prim.Native.Nat.{ℕ, zero, suc, _+_, _-_, _≤_}
 use native.Mathlib.Omega.{arith}
-use native.Mathlib.Nat.{add-zero, add-assoc}
+use native.Mathlib.Nat.{add-zero}
 use lib.ListN.{length, getD, set, take, drop, length-append, length-set, length-drop}
-use lib.Seq.{drop-at, take-at, drop-drop, drop-append-le, take-append-le, drop-set-lt}
+use lib.Seq.{drop-at, take-at, drop-drop, drop-append-le, drop-set-lt}
 use borrow.Author.Tests.{eq-eqb, ne-eqb}
 use Rattle.wire.specs.Frame.{Frame, LegalFrame, Octets, size, code, countOf, wireLength, wire, octetsOf, OfRate, Legal}
 use Rattle.wire.specs.Walk.{Walk, at, refused, readOf, shapeOf}
-use Rattle.wire.proofs.Tables.{below-or, size-pos}
+use Rattle.wire.proofs.Tables.{size-pos}
 use Rattle.wire.proofs.Octets.{length-wire}
 use Rattle.wire.proofs.Complete.{octets-append, octets-snoc, middle, Snoc, none, snoc, from-end}
 use Rattle.wire.proofs.Sound.{sound, Ended, read-ends}
-use Rattle.payload.proofs.Seen.{reads-it, none-gives}
+use Rattle.payload.proofs.Seen.{reads-it}
 use Rattle.views.specs.View.{sizesOf, spot, placeOf, Part, frameOr, emptyPart, augmentationOf, NoRow, FrameView, AugmentationView}
 use Rattle.views.specs.declared.Sizes.{Sizes}
 use Rattle.views.specs.declared.Place.{Place}

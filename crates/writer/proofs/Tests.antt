@@ -1,12 +1,12 @@
 -- Laws of a single row's tests, and what they say where they pass.
 use mathlib.Core.Path.{_≡_, refl, sym, _∙_}
 use mathlib.Core.Logic.{_⊎_, inl, inr}
-use mathlib.Core.Bool.{Bool, true, false, _&&_}
+use mathlib.Core.Bool.{Bool, true, false}
 use Prim.Native.Nat.{ℕ, _-_, _≤_, _<_}
 use native.Mathlib.Omega.{arith}
 use native.Mathlib.Decide.{ℕ-discrete}
-use lib.Dec.{leb, eqb}
-use borrow.Author.Tests.{le-leb, leb-true, eq-eqb, ne-eqb, eqb-true}
+use lib.Dec.{eqb}
+use borrow.Author.Tests.{ne-eqb, eqb-true}
 use Rattle.wire.specs.Frame.{Kind, bps2400, bps1200, bps600, noise, tsvcis, LegalTc, number, rate}
 use Rattle.wire.specs.Walk.{Ending, bad, got, late, clash, beside}
 use Rattle.wire.proofs.Steps.{clash-two}

@@ -1,4 +1,3 @@
-use native.Mathlib.Omega.{arith}
 use Rattle.listing.proofs.Carrying.{broken-goes, phase-goes}
 use mathlib.Core.Path.{refl}
 use borrow.Author.Needs.{needs}

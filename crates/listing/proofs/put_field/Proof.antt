@@ -1,4 +1,4 @@
-use Rattle.listing.proofs.Rows.{field-room, field-put}
+use Rattle.listing.proofs.Rows.{field-put}
 use borrow.Author.Needs.{needs}
 use Rattle.listing.proofs.put_field.Statement.{statement}
 use Rattle.listing.proofs.put_field.Tie as tie

@@ -1,6 +1,5 @@
-use native.Mathlib.Omega.{arith}
 use lib.Seq.{length-take-le}
-use mathlib.Core.Path.{refl, sym, ap, _∙_}
+use mathlib.Core.Path.{sym}
 use Rattle.roundtrip.proofs.Trips.{wrote-it, written-describes, back-refused, back-written}
 use borrow.Author.Needs.{needs}
 use Rattle.roundtrip.proofs.read_back.Statement.{statement}

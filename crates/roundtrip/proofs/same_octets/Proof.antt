@@ -1,5 +1,4 @@
 use native.Mathlib.Omega.{arith}
-use borrow.Author.Needs.{needs}
 use Prim.Native.Nat.{_-_}
 use lib.ListN.{length}
 use Rattle.roundtrip.proofs.Alike.{Alike, alike-long, alike-differ, alike-start, alike-step, alike-end}

@@ -1,6 +1,6 @@
 use native.Mathlib.Omega.{arith}
 use lib.Seq.{length-take-le}
-use mathlib.Core.Path.{refl, sym, ap, _∙_}
+use mathlib.Core.Path.{sym}
 use Rattle.roundtrip.proofs.Trips.{handed-out, read-describes, trip-refused, trip-read}
 use borrow.Author.Needs.{needs}
 use Rattle.roundtrip.proofs.write_back.Statement.{statement}

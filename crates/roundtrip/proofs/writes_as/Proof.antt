@@ -1,6 +1,5 @@
-use native.Mathlib.Omega.{arith}
 use lib.Seq.{length-take-le}
-use mathlib.Core.Path.{refl, sym, ap, _∙_}
+use mathlib.Core.Path.{sym}
 use Rattle.roundtrip.proofs.Trips.{wrote-it, write-room, write-again, written-again}
 use borrow.Author.Needs.{needs}
 use Rattle.roundtrip.proofs.writes_as.Statement.{statement}
