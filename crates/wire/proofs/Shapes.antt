@@ -1,18 +1,21 @@
 -- The step in a shape's numbers, one law for each case, and the step in the walk's own words.
 use mathlib.Core.Path.{_≡_, refl, ap, _∙_}
+use mathlib.Core.Logic.{_⊎_, inl, inr}
 use mathlib.Core.Bool.{Bool, true, false, cond}
 use mathlib.Core.List.{List}
 use Prim.Native.Nat.{ℕ, _+_, _-_, _≤_, _<_}
 use native.Mathlib.Omega.{arith}
 use lib.Dec.{ltb, eqb}
-use lib.ListN.{getD}
+use lib.ListN.{getD, length}
 use borrow.Author.Tests.{lt-ltb, le-ltb, eqb-false}
 use Rattle.wire.specs.Frame.{Kind, bps2400, bps1200, bps600, noise, tsvcis, isShort, size, wireLength}
 use Rattle.wire.specs.Walk.{Ending, bad, got, named, counted, ending, foreign, whole, lastFrame, shapeOf, foundOf}
-use Rattle.wire.specs.Step.{basedShape, fitShape, fitted}
+use Rattle.wire.specs.Step.{basedShape, fitShape, fitted, CountEnd}
 use Rattle.wire.specs.declared.Shape.{Shape}
 use Rattle.wire.specs.declared.Found.{Found}
 use Rattle.wire.specs.declared.Found.the-variants.{Bad, Got}
+use Rattle.wire.proofs.Tables.{below-or, Counts, short, long, counts}
+use Rattle.wire.proofs.Steps.{named-1200, named-foreign, named-noise, named-short, counted-zero, counted-short, counted-long, ending-one, ending-alone, ending-two}
 
 -- ---- augmentation
 
@@ -88,10 +91,26 @@ module _ (p : List ℕ) (u : ℕ) where
   unfolding lastFrame
   fitted-plain k f e ex = ap (fitShape u) ex ∙ rw e (plain-whole k f)
 
+  -- a last octet from 128 to 191
+  pub fitted-other : (x : ℕ) → 128 ≤ x → x < 192 → ending p u ≡ named x → {r : Found} → r ≡ foundOf (named x) → fitted u r ≡ foundOf (lastFrame p u)
+  fitted-other x l h e {r} er = go (below-or x 130) (below-or x 160)
+    where
+      plain : (k : Kind) → ((y : ℕ) → foreign k y ≡ false) → named x ≡ got k 0 → fitted u r ≡ foundOf (lastFrame p u)
+      plain k f n = ap (fitted u) (er ∙ ap foundOf n) ∙ fitted-plain k f (e ∙ n) refl
+
+      go : (x < 130) ⊎ (130 ≤ x) → (x < 160) ⊎ (160 ≤ x) → fitted u r ≡ foundOf (lastFrame p u)
+      go (inl c) d = plain bps1200 (λ y. refl) (named-1200 x l c)
+      go (inr c) (inl d) = let n = named-foreign x c d in ap (fitted u) (er ∙ ap foundOf n) ∙ fitted-bad 3 (e ∙ n)
+      go (inr c) (inr d) = plain noise (λ y. refl) (named-noise x d h)
+
   -- what was found in the walk's own words
   pub fitted-whole : {r : Found} → r ≡ foundOf (lastFrame p u) → fitted u r ≡ foundOf (lastFrame p u)
   unfolding lastFrame
   fitted-whole er = ap (fitted u) er ∙ whole-again (ending p u)
+
+  pub last-bad : (n : ℕ) → ending p u ≡ bad n → Bad n ≡ foundOf (lastFrame p u)
+  unfolding lastFrame whole
+  last-bad n e = rw e
 
 -- ---- the TC that goes with a kind
 
@@ -136,50 +155,45 @@ module _ (p : List ℕ) (u : ℕ) where
       go false false true = tt
       go false false false = told-counted (getD p (u - 2) 0)
 
-  -- ---- the frame that was named, by its TC
+-- ---- a last octet that is an octet of a count
 
-  module _ (x : Shape) {f : Found} (a : f ≡ Got x) (b : f ≡ foundOf (ending p u)) where
-    sh : Shaped (ending p u) x
-    sh = shaped (ending p u) x a b
+tsvcis-got : (e : Ending) (t : ℕ) → e ≡ got tsvcis t → (k : Kind) (s : ℕ) → e ≡ got k s → k ≡ tsvcis
+tsvcis-got e t a k s b = cc
 
-    tc : x .tc ≡ sh .tc
-    tc = ap (λ (y : Shape). y .tc) (sh .is)
+bad-got : (e : Ending) (n : ℕ) → e ≡ bad n → (k : Kind) (s : ℕ) → e ≡ got k s → k ≡ tsvcis
+bad-got e n a k s b = absurd (let z : _≡_ {A = ℕ} 0 1 = cc in omega arith)
 
-    told : Told (got (sh .kind) (sh .tc))
-    told = rw (sh .ends) at told-ending
+pub count-kind : (p : List ℕ) (x : ℕ) → CountEnd p x → (k : Kind) (t : ℕ) → ending p (length p) ≡ got k t → k ≡ tsvcis
+count-kind p x h = go (below-or x 255) (below-or 1 (length p))
+  where
+    tc : ℕ
+    tc = getD p (length p - 2) 0
 
-    pub named-plain : x .tc ≡ 0 → fitted u (Got x) ≡ foundOf (lastFrame p u)
-    named-plain z = go (sh .kind) (sh .tc) (sh .ends) (sh .is) told tc
-      where
-        go : (k : Kind) (t : ℕ) → ending p u ≡ got k t → x ≡ shapeOf k t → Told (got k t) → x .tc ≡ t → fitted u (Got x) ≡ foundOf (lastFrame p u)
-        go bps2400 t e i m q = fitted-plain p u bps2400 (λ y. refl) (e ∙ ap (got bps2400) m) (i ∙ ap (shapeOf bps2400) m)
-        go bps1200 t e i m q = fitted-plain p u bps1200 (λ y. refl) (e ∙ ap (got bps1200) m) (i ∙ ap (shapeOf bps1200) m)
-        go bps600 t e i m q = fitted-plain p u bps600 (λ y. refl) (e ∙ ap (got bps600) m) (i ∙ ap (shapeOf bps600) m)
-        go noise t e i m q = fitted-plain p u noise (λ y. refl) (e ∙ ap (got noise) m) (i ∙ ap (shapeOf noise) m)
-        go tsvcis t e i m q = absurd (omega arith)
+    long-kind : ending p (length p) ≡ counted tc → (0 < tc) ⊎ (tc ≤ 0) → Counts tc → (k : Kind) (t : ℕ) → ending p (length p) ≡ got k t → k ≡ tsvcis
+    long-kind e (inr z) c = bad-got (ending p (length p)) 4 (e ∙ counted-zero tc (omega arith))
+    long-kind e (inl z) (short a b) = bad-got (ending p (length p)) 5 (e ∙ counted-short tc a b)
+    long-kind e (inl z) (long c) = tsvcis-got (ending p (length p)) tc (e ∙ counted-long tc z c)
 
-    module _ (z : x .tc ≡ 0 → ⊥) where
-      is-tsvcis : (ending p u ≡ got tsvcis (sh .tc)) × (x ≡ shapeOf tsvcis (sh .tc))
-      is-tsvcis = go (sh .kind) (sh .tc) (sh .ends) (sh .is) told tc
-        where
-          go : (k : Kind) (t : ℕ) → ending p u ≡ got k t → x ≡ shapeOf k t → Told (got k t) → x .tc ≡ t → (ending p u ≡ got tsvcis t) × (x ≡ shapeOf tsvcis t)
-          go bps2400 t e i m q = absurd (z (q ∙ m))
-          go bps1200 t e i m q = absurd (z (q ∙ m))
-          go bps600 t e i m q = absurd (z (q ∙ m))
-          go noise t e i m q = absurd (z (q ∙ m))
-          go tsvcis t e i m q = (e, i)
+    go : (x < 255) ⊎ (255 ≤ x) → (1 < length p) ⊎ (length p ≤ 1) → (k : Kind) (t : ℕ) → ending p (length p) ≡ got k t → k ≡ tsvcis
+    go (inl a) w = tsvcis-got (ending p (length p)) (x - 177) (ending-one p (length p) x (h .some) (h .last) a ∙ named-short x (x - 177) (h .high) refl)
+    go (inr a) (inl w) = long-kind (ending-two p (length p) tc w (omega (arith, h .last)) refl) (below-or 0 tc) (counts tc)
+    go (inr a) (inr w) = bad-got (ending p (length p)) 2 (ending-alone p (length p) (omega (arith, h .some)) (omega (arith, h .last)))
 
-      pub based-wire : 7 ≤ x .wire
-      based-wire = rw (is-tsvcis .1) (omega arith)
+module _ (p : List ℕ) (x : ℕ) (h : CountEnd p x) (y : Shape) (w : Shaped (ending p (length p)) y) where
+  is-tsvcis : y ≡ shapeOf tsvcis (w .tc)
+  is-tsvcis = w .is ∙ ap (λ (k : Kind). shapeOf k (w .tc)) (count-kind p x h (w .kind) (w .tc) (w .ends))
 
-      choose-two : (t : ℕ) (a b : Bool) → cond a (Bad 2) (cond b (Bad 7) (Got (shapeOf tsvcis t))) ≡ foundOf (cond a (bad 2) (cond b (bad 7) (got tsvcis t)))
-      choose-two t true b = refl
-      choose-two t false true = refl
-      choose-two t false false = refl
+  pub count-wire : 7 ≤ y .wire
+  count-wire = rw is-tsvcis (omega arith)
 
-      pub named-based : (r : Found) → r ≡ basedShape p u x → fitted u r ≡ foundOf (lastFrame p u)
-      unfolding basedShape lastFrame whole
-      named-based r er =
-          let t = sh .tc in
-          fitted-whole p u
-          (er ∙ ap (basedShape p u) (is-tsvcis .1) ∙ rw (is-tsvcis .0) (choose-two t (ltb u (wireLength tsvcis t)) (ltb 63 (getD p (u - wireLength tsvcis t + 6) 0))))
+  choose-two : (t : ℕ) (a b : Bool) → cond a (Bad 2) (cond b (Bad 7) (Got (shapeOf tsvcis t))) ≡ foundOf (cond a (bad 2) (cond b (bad 7) (got tsvcis t)))
+  choose-two t true b = refl
+  choose-two t false true = refl
+  choose-two t false false = refl
+
+  pub count-last : {r : Found} → r ≡ basedShape p (length p) y → r ≡ foundOf (lastFrame p (length p))
+  unfolding basedShape lastFrame whole
+  count-last er =
+      let t = w .tc in
+      let e : ending p (length p) ≡ got tsvcis t = w .ends ∙ ap (λ (k : Kind). got k t) (count-kind p x h (w .kind) t (w .ends)) in
+      er ∙ ap (basedShape p (length p)) is-tsvcis ∙ rw e (choose-two t (ltb (length p) (wireLength tsvcis t)) (ltb 63 (getD p (length p - wireLength tsvcis t + 6) 0)))

@@ -215,20 +215,38 @@ fn augmented_frame(unread: &[u8], shape: Shape) -> Found
     Found::Got(shape)
 }
 
-// The frame that the unread octets end in, whole or not, with what TSVCIS alone is asked.
+// The TSVCIS frame that a last octet x from 192 on names.
+fn tsvcis_frame(unread: &[u8], x: u8) -> Found
+    requires { ⌜ CountEnd (now unread) x ⌝ }
+    ensures { λ r. ⌜ r ≡ foundOf (lastFrame (now (unread .entry)) (length (now (unread .entry)))) ⌝ }
+{
+    let found = last_count(unread, x);
+    match found {
+        Found::Bad(number) => Found::Bad(number),
+        Found::Got(shape) => augmented_frame(unread, shape),
+    }
+}
+
+// The frame that the unread octets end in, whole or not, with what TSVCIS alone is asked. The tests are those of `name` in
+// another order: behind a frame like it no frame is asked here, so that of frames in a row it is mostly TSVCIS.
 fn last_frame(unread: &[u8]) -> Found
     ensures { λ r. ⌜ fitted (length (now (unread .entry))) r ≡ foundOf (lastFrame (now (unread .entry)) (length (now (unread .entry)))) ⌝ }
 {
-    let found = name(unread);
-    match found {
-        Found::Bad(number) => Found::Bad(number),
-        Found::Got(shape) => {
-            if shape.tc == 0 {
-                return Found::Got(shape);
-            }
-            augmented_frame(unread, shape)
-        }
+    let n = unread.len();
+    if n == 0 {
+        return Found::Bad(refusal::CUT);
     }
+    let x = unread[n - 1];
+    if x < 128 {
+        if x < 64 {
+            return Found::Got(shape_2400());
+        }
+        return Found::Got(shape_600());
+    }
+    if 191 < x {
+        return tsvcis_frame(unread, x);
+    }
+    last_octet(x)
 }
 
 // A frame at the end of n unread octets, whole, and before none that bars it: comfort noise is last, and a coder frame stands
