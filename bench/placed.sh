@@ -1,37 +1,45 @@
 #!/usr/bin/env bash
-# The benchmark with the library's functions 0, 16, 32 and 48 octets behind a multiple of 64: a loop's place in the
-# processor's lines of code moves a line of the benchmark by a quarter. Prints, of C and of Rust, the mean of the four
-# runs and the least and the most.
-# placed.sh LIBRARY OUT COMMAND...: COMMAND runs the benchmark with the library that MOULT_LIB names.
+# The benchmark with the functions of the library and of C 0, 16, 32 and 48 octets behind a multiple of 64: a loop's place in
+# the processor's lines of code moves a line of the benchmark by a quarter. In four runs each has each place once. Prints, of C
+# and of Rust, the mean of the four runs and the least and the most.
+# placed.sh LIBRARY REFERENCE OUT COMMAND...: COMMAND runs the benchmark with the libraries that MOULT_LIB and REFERENCE_LIB name.
 set -euo pipefail
 
 library=$(realpath "$1")
-out=$2
-shift 2
+reference=$(realpath "$2")
+out=$3
+shift 3
 mkdir -p "$out"
 out=$(realpath "$out")
-rm -rf "$out/objects"
-mkdir "$out/objects"
-(cd "$out/objects" && ar x "$library")
-ld -r -o "$out/library.o" "$out"/objects/*.o
 
-# A section of a function's name before its own moves that function, and the linker keeps both.
+# whole NAME ARCHIVE: all of an archive as one object file.
+whole() {
+    rm -rf "$out/objects"
+    mkdir "$out/objects"
+    (cd "$out/objects" && ar x "$2")
+    ld -r -o "$out/$1.o" "$out"/objects/*.o
+}
+
+# moved NAME OCTETS: a section of a function's name before its own moves that function, and the linker keeps both.
 moved() {
-    objdump -h "$out/library.o" | awk -v octets="$1" '
+    objdump -h "$out/$1.o" | awk -v octets="$2" '
         $2 ~ /^\.text\./ {
             printf ".section \"%s\",\"ax\",@progbits\n.p2align 6\n", $2
             if (octets) printf ".skip %d\n", octets
         }
         END { print ".section .note.GNU-stack,\"\",@progbits" }' >"$out/before.s"
     gcc -c "$out/before.s" -o "$out/before.o"
-    ld -r -o "$out/moved.o" "$out/before.o" "$out/library.o"
-    rm -f "$out/libmoved.a"
-    ar rcs "$out/libmoved.a" "$out/moved.o"
+    ld -r -o "$out/moved.o" "$out/before.o" "$out/$1.o"
+    rm -f "$out/lib$1.a"
+    ar rcs "$out/lib$1.a" "$out/moved.o"
 }
 
-for octets in 0 16 32 48; do
-    moved "$octets"
-    MOULT_LIB=$out/libmoved.a "$@" >"$out/run.$octets"
+whole library "$library"
+whole reference "$reference"
+for places in 0:32 16:0 32:48 48:16; do
+    moved library "${places%:*}"
+    moved reference "${places#*:}"
+    MOULT_LIB=$out/liblibrary.a REFERENCE_LIB=$out/libreference.a "$@" >"$out/run.${places%:*}"
 done
 
 # The last two columns are ratios; the name and the mix stand before the three times.

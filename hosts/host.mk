@@ -48,7 +48,7 @@ $(HOST_OUT)/list: examples/c/list.c include/moult.h $(MOULT_LIB) FORCE | $(HOST_
 
 # The benchmark: the library beside careful C and safe Rust. Not part of the gate.
 # gcc would turn a copy of bounded length into `rep movsq`, slower than the C library's memcpy.
-REFERENCE_FLAGS := -std=c11 -O3 -mmemcpy-strategy=libcall:-1:noalign -Wall -Wextra -Werror -Iinclude
+REFERENCE_FLAGS := -std=c11 -O3 -ffunction-sections -mmemcpy-strategy=libcall:-1:noalign -Wall -Wextra -Werror -Iinclude
 REFERENCE_C := payload settings fields
 REFERENCE_O := $(REFERENCE_C:%=$(HOST_OUT)/reference_%.o)
 
@@ -62,15 +62,17 @@ $(HOST_OUT)/libreference.a: $(REFERENCE_O)
 $(HOST_OUT)/c_list: bench/c/list.c $(HOST_OUT)/libreference.a
 	gcc $(REFERENCE_FLAGS) -D_GNU_SOURCE $^ -o $@
 
-BENCH_ENV = $(CARGO_ENV) MOULT_REFERENCE=$(abspath $(HOST_OUT)/libreference.a)
+# REFERENCE_LIB names another build of the C implementation.
+REFERENCE_LIB ?= $(HOST_OUT)/libreference.a
+BENCH_ENV = $(CARGO_ENV) MOULT_REFERENCE=$(abspath $(REFERENCE_LIB))
 
-bench: $(MOULT_LIB) $(HOST_OUT)/libreference.a $(HOST_OUT)/c_list
+bench: $(MOULT_LIB) $(REFERENCE_LIB) $(HOST_OUT)/c_list
 	$(BENCH_ENV) cargo build --offline --release --quiet --manifest-path bench/rust/Cargo.toml
 	$(CARGO_OUT)/release/bench target/bin/list $(HOST_OUT)/c_list $(CARGO_OUT)/release/list $(HOST_OUT)/listing
 
-# The same at four places of the library's functions.
+# The same at four places of the library's functions and of C's.
 bench-placed: $(MOULT_LIB) $(HOST_OUT)/libreference.a $(HOST_OUT)/c_list
-	bench/placed.sh $(MOULT_LIB) $(HOST_OUT)/placed $(MAKE) --no-print-directory --silent bench
+	bench/placed.sh $(MOULT_LIB) $(HOST_OUT)/libreference.a $(HOST_OUT)/placed $(MAKE) --no-print-directory --silent bench
 
 # The fuzzer: the library beside a second C reading, by libFuzzer. Not part of the gate.
 CLANG ?= clang
