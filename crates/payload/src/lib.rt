@@ -38,8 +38,9 @@ pub enum Reading {
     Refused(Refusal),
 }
 
-// The walk, from the payload's end to its front: all that is asked of a payload is asked here first. Behind a frame it goes
-// over those like it, of which only the last octet has to be asked, in a loop of their own.
+// The walk, from the payload's end to its front: all that is asked of a payload is asked here first. The frames before one that
+// are like it, of which only the last octet has to be asked, are gone over in a loop of their own; the first one is left to the
+// step, which asks whether the octets that are left are a whole frame.
 pub fn walk(payload: &[u8]) -> Walked
     ensures { λ r. ⌜ Walks (now (payload .entry)) r ⌝ }
 {
@@ -69,6 +70,7 @@ pub fn walk(payload: &[u8]) -> Walked
                 counts += shape.count;
                 behind = shape.mark;
                 marks += behind;
+                // A payload of one frame leaves here at once.
                 if unread == 0 {
                     break;
                 }

@@ -60,7 +60,7 @@ barred b (bad n) = bad n
 barred b (got k t) = cond (eqb (bitAnd b (bars k)) 0) (got k t) (bad (barredAs k))
 
 -- a last octet x is that of a frame like the one behind it, whose mark is m: of seven octets, without augmentation, and of
--- the same rate
+-- the same rate; proofs/Like.antt shows it for the marks of all kinds
 abbrev pub isLike : ℕ → ℕ → Bool
 isLike x m = ltb (bitXor x m) 64
 

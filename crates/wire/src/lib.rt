@@ -228,7 +228,7 @@ fn tsvcis_frame(unread: &[u8], x: u8) -> Found
 }
 
 // The frame that the unread octets end in, whole or not, with what TSVCIS alone is asked. The tests are those of `name` in
-// another order: behind a frame like it no frame is asked here, so that of frames in a row it is mostly TSVCIS.
+// another order: of frames like the next one the walk asks nothing here, so that it is TSVCIS that is asked over and over.
 fn last_frame(unread: &[u8]) -> Found
     ensures { λ r. ⌜ fitted (length (now (unread .entry))) r ≡ foundOf (lastFrame (now (unread .entry)) (length (now (unread .entry)))) ⌝ }
 {
