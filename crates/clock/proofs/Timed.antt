@@ -7,11 +7,11 @@ use borrow.Author.Tests.{lt-ltb, le-ltb, eq-eqb, ne-eqb}
 use Rattle.refusal.specs.declared.Refusal.{Refusal}
 use Rattle.wire.specs.Frame.{ticksOfRate, Octets, ticksOf}
 use Rattle.wire.specs.Walk.{readOf}
-use Rattle.payload.specs.Reading.{walkedOf, ticksIn}
+use Rattle.payload.specs.Reading.{walkedOf}
 use Rattle.payload.specs.declared.Extent.{Extent}
 use Rattle.payload.specs.declared.Walked.{Walked}
 use Rattle.payload.specs.declared.Walked.the-variants as walked
-use Rattle.payload.proofs.Seen.{went, ticks-seen, stopped, reads-it, none-gives}
+use Rattle.payload.proofs.Seen.{went, stopped, reads-it, none-gives}
 use Rattle.clock.specs.Time.{packetTicks, packetReport, PacketTime, ptimeOf, noPtime}
 use Rattle.clock.specs.declared.PacketTicks.the-variants as packet
 use Rattle.clock.specs.declared.PacketMillis.the-variants as settings
@@ -46,11 +46,12 @@ seven-frames = refl
 -- ---- a packet's time
 
 module _ (p : List ℕ) (o : Octets p) {s : Walked} (is : s ≡ walkedOf (readOf p)) where
-  pub packet-whole : (x : Extent) → s ≡ walked.Whole x → {t : ℕ} → t ≡ ticksIn x → PacketTime p (packet.Lasts (record { 0 = t }))
-  packet-whole x e {t} et =
-      let a = went p o is x e .0 in
-      let d : t ≡ ticksOf (a .fs) = et ∙ ticks-seen p o is x e in
-      let same : packet.Lasts (record { 0 = t }) ≡ packetTicks (readOf p) =
+  pub packet-whole : (x : Extent) → s ≡ walked.Whole x → PacketTime p (packet.Lasts (record { 0 = x .ticks }))
+  packet-whole x e =
+      let both = went p o is x e in
+      let a = both .0 in
+      let d : x .ticks ≡ ticksOf (a .fs) = ap (λ (y : Extent). y .ticks) (both .1) in
+      let same : packet.Lasts (record { 0 = x .ticks }) ≡ packetTicks (readOf p) =
       ap (λ (n : ℕ). packet.Lasts (record { 0 = n })) d ∙ ap packetTicks (sym (a .reads)) in
       record {
         answer = same;

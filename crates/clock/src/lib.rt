@@ -29,7 +29,7 @@ pub fn packet_ticks(payload: &[u8]) -> PacketTicks
     let walked = payload::walk(payload);
     match walked {
         Walked::Refused(refusal) => PacketTicks::Refused(refusal),
-        Walked::Whole(extent) => PacketTicks::Lasts(Ticks(payload::ticks_of(extent) as usize)),
+        Walked::Whole(extent) => PacketTicks::Lasts(Ticks(extent.ticks as usize)),
     }
 }
 

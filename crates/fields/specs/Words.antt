@@ -15,10 +15,11 @@ unfoldable pub wordOf : List ℕ → ℕ
 wordOf [] = 0
 wordOf (x ∷ xs) = x * 2 ^ (8 * length xs) + wordOf xs
 
--- the same of the first four octets of a body, and of its last three
+-- the number that the first four octets of a body make
 abbrev pub firstFour : List ℕ → ℕ
 firstFour xs = getD xs 0 0 * 16777216 + getD xs 1 0 * 65536 + getD xs 2 0 * 256 + getD xs 3 0
 
+-- the number that its last three make
 abbrev pub lastThree : List ℕ → ℕ
 lastThree xs = getD xs 4 0 * 65536 + getD xs 5 0 * 256 + getD xs 6 0
 

@@ -164,7 +164,7 @@ fn put_line(out: &mut [u8], at: usize, n: u64, payload: &[u8]) -> usize
             n,
             b" ok ",
             wide(extent.frames),
-            payload::ticks_of(extent) as u64,
+            extent.ticks as u64,
         ),
         Walked::Refused(refusal) => put_row(
             out,

@@ -2,7 +2,7 @@
 use mathlib.Core.Path.{_≡_, refl, sym, ap, _∙_}
 use mathlib.Core.Logic.{_⊎_, inl, inr}
 use mathlib.Core.List.{List, [], _∷_}
-use Prim.Native.Nat.{ℕ, _-_, _/_, _≤_, _<_}
+use Prim.Native.Nat.{ℕ, _/_, _≤_, _<_}
 use native.Mathlib.Omega.{arith}
 use lib.ListN.{length}
 use borrow.Author.Tests.{lt-ltb, le-ltb}
@@ -12,10 +12,10 @@ use Rattle.wire.specs.Walk.{Walk, at, refused, readOf}
 use Rattle.wire.proofs.Tables.{below-or}
 use Rattle.wire.proofs.Complete.{unique}
 use Rattle.wire.proofs.Ranges.{frames-most}
-use Rattle.payload.specs.Reading.{refuse, octetsIn, walkedOf, Outcome, kept, handedOut, settle, readInto, reportOf}
+use Rattle.payload.specs.Reading.{refuse, walkedOf, Outcome, kept, handedOut, settle, readInto, reportOf}
 use Rattle.payload.specs.Promise.{Room, HandedBack, Demand, Reads}
 use Rattle.payload.specs.Filling.{Known}
-use Rattle.payload.proofs.Seen.{View as Seen, over, not, view as seen, Accepted, went, stopped, reads-it, octets-left}
+use Rattle.payload.proofs.Seen.{View as Seen, over, not, view as seen, Accepted, went, stopped, reads-it}
 use Rattle.payload.specs.declared.Extent.{Extent}
 use Rattle.payload.specs.declared.Walked.{Walked}
 use Rattle.payload.specs.declared.Walked.the-variants as walked
@@ -141,27 +141,26 @@ module _ (p r b : List ℕ) where
       frames : x .frames ≡ length (w .fs)
       frames = ap (λ (y : Extent). y .frames) (went p o is x e .1)
 
+      octets : x .octets ≡ length (bodiesOf (w .fs))
+      octets = ap (λ (y : Extent). y .octets) (went p o is x e .1)
+
       pub read-few : length r / 2 < x .frames → Reads p r b (reading.Refused (refuse 9 (x .frames))) r b
       read-few h =
           promised o (kept 9 (length (w .fs)) r b) (ap (settle r b) (w .reads) ∙ settle-few r b 0 (w .fs) (omega (arith, frames)))
           (ap (λ (n : ℕ). reading.Refused (refuse 9 n)) frames) refl refl
 
-      module _ {m : ℕ} (em : m ≡ octetsIn (length p) x) where
-        octets : m ≡ length (bodiesOf (w .fs))
-        octets = em ∙ ap (octetsIn (length p)) (went p o is x e .1) ∙ octets-left (w .fs) (w .gives)
+      pub read-short : x .frames ≤ length r / 2 → length b < x .octets → Reads p r b (reading.Refused (refuse 10 (x .octets))) r b
+      read-short h l =
+          promised o (kept 10 (length (bodiesOf (w .fs))) r b)
+          (ap (settle r b) (w .reads) ∙ settle-short r b 0 (w .fs) (omega (arith, frames)) (omega (arith, octets)))
+          (ap (λ (n : ℕ). reading.Refused (refuse 10 n)) octets) refl refl
 
-        pub read-short : x .frames ≤ length r / 2 → length b < m → Reads p r b (reading.Refused (refuse 10 m)) r b
-        read-short h l =
-            promised o (kept 10 (length (bodiesOf (w .fs))) r b)
-            (ap (settle r b) (w .reads) ∙ settle-short r b 0 (w .fs) (omega (arith, frames)) (omega (arith, octets)))
-            (ap (λ (n : ℕ). reading.Refused (refuse 10 n)) octets) refl refl
+      pub read-known : x .frames ≤ length r / 2 → x .octets ≤ length b → Known p (x .frames) (x .octets) (length r) (length b)
+      read-known h l = record { fs = w .fs; reads = w .reads; frames = frames; octets = octets; rows = omega arith; bodies = l }
 
-        pub read-known : x .frames ≤ length r / 2 → m ≤ length b → Known p (x .frames) m (length r) (length b)
-        read-known h l = record { fs = w .fs; reads = w .reads; frames = frames; octets = octets; rows = omega arith; bodies = l }
-
-        pub read-right : x .frames ≤ length r / 2 → m ≤ length b → {r′ b′ : List ℕ} → r′ ≡ readInto p r b .rows → b′ ≡ readInto p r b .bodies
-            → Reads p r b (reading.Read (x .frames) m) r′ b′
-        read-right h l er eb =
-            let q : readInto p r b ≡ handedOut (w .fs) r b = ap (settle r b) (w .reads) ∙ settle-right r b 0 (w .fs) (omega (arith, frames)) (omega (arith, octets)) in
-            promised o (readInto p r b) refl
-            (ap (λ (n : ℕ). reading.Read n m) frames ∙ ap (reading.Read (length (w .fs))) octets ∙ ap (λ (y : Outcome). y .answer) (sym q)) er eb
+      pub read-right : x .frames ≤ length r / 2 → x .octets ≤ length b → {r′ b′ : List ℕ} → r′ ≡ readInto p r b .rows → b′ ≡ readInto p r b .bodies
+          → Reads p r b (reading.Read (x .frames) (x .octets)) r′ b′
+      read-right h l er eb =
+          let q : readInto p r b ≡ handedOut (w .fs) r b = ap (settle r b) (w .reads) ∙ settle-right r b 0 (w .fs) (omega (arith, frames)) (omega (arith, octets)) in
+          promised o (readInto p r b) refl
+          (ap (λ (n : ℕ). reading.Read n (x .octets)) frames ∙ ap (reading.Read (length (w .fs))) octets ∙ ap (λ (y : Outcome). y .answer) (sym q)) er eb

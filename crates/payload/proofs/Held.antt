@@ -6,35 +6,34 @@ use Prim.Native.Nat.{ℕ, zero, suc, _+_, _-_, _*_, _≤_, _<_}
 use native.Mathlib.Omega.{arith}
 use lib.Bits.{bitAnd}
 use lib.Dec.{eqb}
-use lib.ListN.{length, getD, take}
+use lib.ListN.{length, take, length-append, length-set}
 use borrow.Author.Tests.{lt-ltb, le-ltb}
-use Rattle.wire.specs.Frame.{Frame, Kind, bps2400, bps1200, bps600, noise, tsvcis, LegalTc, Octets, number, size, countOf, wireLength}
-use Rattle.wire.specs.Walk.{Ending, bad, got, lastFrame, mark, bars, turn, next, frameAt, run, readOf, at, shapeOf, foundOf}
-use Rattle.wire.specs.Step.{left, barred, barredAs, isLike}
+use Rattle.wire.specs.Frame.{Frame, Kind, bps2400, bps1200, bps600, noise, tsvcis, LegalTc, Octets, number, size, rate, ticks, wireLength, bodiesOf, ticksOf}
+use Rattle.wire.specs.Walk.{Ending, bad, got, lastFrame, own, before, turn, next, frameAt, seen, run, readOf, at, shapeOf, foundOf}
+use Rattle.wire.specs.Step.{allowed, barred, barredAs}
 use Rattle.wire.specs.declared.Shape.{Shape}
 use Rattle.wire.specs.declared.Found.{Found}
 use Rattle.wire.specs.declared.Found.the-variants.{Bad, Got}
 use Rattle.wire.proofs.Tables.{size-pos, tc-most}
+use Rattle.wire.proofs.Rates.{kind-ticks-most}
 use Rattle.wire.proofs.Barred.{beside-barred}
-use Rattle.wire.proofs.Like.{like}
 use Rattle.wire.proofs.Complete.{next-at, stay}
 use Rattle.wire.proofs.Ended.{Whole, Wholes, last-says}
-use Rattle.wire.proofs.Sound.{run-refused}
+use Rattle.wire.proofs.Sound.{run-refused, length-base}
 use Rattle.wire.proofs.Prefix.{last-take}
 use Rattle.wire.proofs.Shapes.{Shaped, shaped, bad-is}
-use Rattle.payload.specs.Reading.{countsOf, marksOf, walkedOf, refuse}
+use Rattle.payload.specs.Reading.{walkedOf, refuse}
 use Rattle.payload.specs.declared.Walked.the-variants as walked
-use Rattle.payload.proofs.Sums.{mark-most}
 
 -- a turn's frame is whole
 pub barred-keeps : (p : List ℕ) (u b : ℕ) (e : Ending) → Wholes p u e → Wholes p u (barred b e)
 unfolding barred
 barred-keeps p u b (bad x) w = tt
-barred-keeps p u b (got k t) w = go (eqb (bitAnd b (bars k)) 0)
+barred-keeps p u b (got k t) w = go (eqb (bitAnd b (own k)) 0)
   where
-    go : (a : Bool) → Wholes p u (cond a (got k t) (bad (barredAs k)))
-    go true = w
-    go false = tt
+    go : (a : Bool) → Wholes p u (cond a (bad (barredAs k)) (got k t))
+    go true = tt
+    go false = w
 
 -- what a turn that goes on knows of its frame's numbers
 pub record Sized (u : ℕ) (x : Shape) : Type 0 where
@@ -44,8 +43,7 @@ pub record Sized (u : ℕ) (x : Shape) : Type 0 where
   pub based : 1 ≤ x .size
   pub less : x .tc < 256
   pub base : x .size ≤ x .body
-  pub counts : x .count ≤ x .wire
-  pub marked : x .mark ≤ 65536
+  pub lasts : x .ticks ≤ 720
   pub plain : x .kind ≡ 1 → x ≡ shapeOf bps2400 0
   pub low : x .kind ≡ 3 → x ≡ shapeOf bps600 0
 
@@ -71,23 +69,24 @@ sized p u k t w = record {
   based = omega (arith, size-pos k);
   less = tc-most k t (w .tc);
   base = omega arith;
-  counts = omega arith;
-  marked = mark-most k;
+  lasts = kind-ticks-most k;
   plain = plain-shape k t (w .tc);
   low = low-shape k t (w .tc);
 }
 
--- u octets are unread; n frames behind them are read, with c octets of counts, the sum d of marks and the mark b to leave
-pub record Held (p : List ℕ) (u n c d b : ℕ) : Type 0 where
+-- u octets are unread; n frames behind them are read, which have o octets of bodies and the rate s, last d ticks and allow the
+-- bits b
+pub record Held (p : List ℕ) (u n o s d b : ℕ) : Type 0 where
   pub later : List Frame
   pub fuel : ℕ
   pub enough : u ≤ fuel
   pub frames : n ≡ length later
-  pub counts : c ≡ countsOf later
-  pub inside : c + u ≤ length p
-  pub marks : d ≡ marksOf later
-  pub most : d ≤ 65536 * n
-  pub mark : b ≡ left later
+  pub octets : o ≡ length (bodiesOf later)
+  pub inside : o + u ≤ length p
+  pub rated : s ≡ seen later
+  pub lasts : d ≡ ticksOf later
+  pub most : d ≤ 720 * n
+  pub bits : b ≡ allowed later
   pub few : n + u ≤ length p
   pub short : length p ≤ 1400
   pub same : run fuel p (at u later) ≡ readOf p
@@ -96,29 +95,30 @@ pub too-long : (p : List ℕ) → 1400 < length p → walked.Refused (refuse 1 1
 unfolding readOf
 too-long p h = simp (lt-ltb 1400 (length p) h)
 
-pub held-start : (p : List ℕ) → length p ≤ 1400 → Held p (length p) 0 0 0 0
+pub held-start : (p : List ℕ) → length p ≤ 1400 → {b : ℕ} → b ≡ allowed [] → Held p (length p) 0 0 0 0 b
 unfolding readOf
-held-start p h = record {
+held-start p h e = record {
   later = [];
   fuel = length p;
   enough = omega arith;
   frames = refl;
-  counts = refl;
+  octets = refl;
   inside = omega arith;
-  marks = refl;
+  rated = refl;
+  lasts = refl;
   most = omega arith;
-  mark = refl;
+  bits = e;
   few = omega arith;
   short = h;
   same = simp (le-ltb 1400 (length p) h);
 }
 
-pub held-end : (p : List ℕ) (u n c d b : ℕ) → Held p u n c d b → u ≤ 0 → walked.Whole (record { frames = n; counts = c; marks = d }) ≡ walkedOf (readOf p)
-held-end p u n c d b h z =
+pub held-end : (p : List ℕ) (u n o s d b : ℕ) → Held p u n o s d b → u ≤ 0 → walked.Whole (record { frames = n; octets = o; rate = s; ticks = d }) ≡ walkedOf (readOf p)
+held-end p u n o s d b h z =
     let e : u ≡ 0 = omega arith in
-    rw (← (h .same), e, stay (h .fuel) p (h .later), h .frames, h .counts, h .marks)
+    rw (← (h .same), e, stay (h .fuel) p (h .later), h .frames, h .octets, h .rated, h .lasts)
 
-module _ (p : List ℕ) (u n c d b : ℕ) (h : Held p u n c d b) (pos : 1 ≤ u) where
+module _ (p : List ℕ) (u n o s d b : ℕ) (h : Held p u n o s d b) (pos : 1 ≤ u) where
   here : Ending
   here = barred b (lastFrame p u)
 
@@ -131,7 +131,7 @@ module _ (p : List ℕ) (u n c d b : ℕ) (h : Held p u n c d b) (pos : 1 ≤ u)
   unfolding here
   turns e i =
       next-at p u (h .later) pos
-      ∙ ap (turn p u (h .later)) (beside-barred (h .later) (lastFrame p u) ∙ ap (λ (x : ℕ). barred x (lastFrame p u)) (sym (h .mark)) ∙ i)
+      ∙ ap (turn p u (h .later)) (beside-barred (h .later) (lastFrame p u) ∙ ap (λ (x : ℕ). barred x (lastFrame p u)) (sym (h .bits)) ∙ i)
 
   pub held-bad : (x : ℕ) {f : Found} → f ≡ Bad x → f ≡ foundOf (barred b (lastFrame (take u p) (length (take u p)))) → walked.Refused (refuse x u) ≡ walkedOf (readOf p)
   held-bad x a e = go (h .fuel) (h .enough) (h .same)
@@ -140,66 +140,40 @@ module _ (p : List ℕ) (u n c d b : ℕ) (h : Held p u n c d b) (pos : 1 ≤ u)
       go zero l q = absurd (omega arith)
       go (suc f) l q = rw (← q, turns (bad x) (bad-is here x a (there e)), run-refused f p x u (h .later))
 
-  module _ (os : Octets p) where
-    whole : (k : Kind) (t : ℕ) → here ≡ got k t → Whole p u k t
+  module _ (os : Octets p) (x : Shape) {f : Found} (a : f ≡ Got x) (e : f ≡ foundOf (barred b (lastFrame (take u p) (length (take u p))))) where
+    sh : Shaped here x
+    sh = shaped here x a (there e)
+
+    whole : Whole p u (sh .kind) (sh .tc)
     unfolding here
-    whole k t i = rw i at (barred-keeps p u b (lastFrame p u) (last-says p u os pos))
+    whole = rw (sh .ends) at (barred-keeps p u b (lastFrame p u) (last-says p u os pos))
 
-    next-held : (k : Kind) (t : ℕ) → here ≡ got k t → Held p (u - wireLength k t) (n + 1) (c + length (countOf k t)) (d + mark k) (mark k)
-    next-held k t i = go (h .fuel) (h .enough) (h .same)
+    pub held-sized : Sized u x
+    held-sized = rw (sh .is) (sized p u (sh .kind) (sh .tc) whole)
+
+    next-held : (k : Kind) (t : ℕ) → here ≡ got k t → Whole p u k t → Held p (u - wireLength k t) (n + 1) (o + (size k + t)) (rate k) (d + ticks k) (before k)
+    next-held k t i w = go (h .fuel) (h .enough) (h .same)
       where
-        w : Whole p u k t
-        w = whole k t i
+        body : length (frameAt p (u - wireLength k t) k t .body) ≡ size k + t
+        body = simp length-set (length-base p u k t os (omega (arith, h .few)) w)
 
-        go : (f : ℕ) → u ≤ f → run f p (at u (h .later)) ≡ readOf p → Held p (u - wireLength k t) (n + 1) (c + length (countOf k t)) (d + mark k) (mark k)
+        go : (f : ℕ) → u ≤ f → run f p (at u (h .later)) ≡ readOf p → Held p (u - wireLength k t) (n + 1) (o + (size k + t)) (rate k) (d + ticks k) (before k)
         go zero l r = absurd (omega arith)
         go (suc f) l r = record {
           later = frameAt p (u - wireLength k t) k t ∷ h .later;
           fuel = f;
           enough = omega (arith, size-pos k);
           frames = omega (arith, h .frames);
-          counts = omega (arith, h .counts);
+          octets = simp length-append (omega (arith, h .octets, body));
           inside = omega (arith, h .inside, w .room);
-          marks = omega (arith, h .marks);
-          most = omega (arith, h .most, mark-most k);
-          mark = refl;
+          rated = refl;
+          lasts = omega (arith, h .lasts);
+          most = omega (arith, h .most, kind-ticks-most k);
+          bits = refl;
           few = omega (arith, h .few, size-pos k, w .room);
           short = h .short;
           same = ap (run f p) (sym (turns (got k t) i)) ∙ r;
         }
 
-    module _ (x : Shape) {f : Found} (a : f ≡ Got x) (e : f ≡ foundOf (barred b (lastFrame (take u p) (length (take u p))))) where
-      sh : Shaped here x
-      sh = shaped here x a (there e)
-
-      pub held-sized : Sized u x
-      held-sized = rw (sh .is) (sized p u (sh .kind) (sh .tc) (whole (sh .kind) (sh .tc) (sh .ends)))
-
-      pub held-got : Held p (u - x .wire) (n + 1) (c + x .count) (d + x .mark) (x .mark)
-      held-got = rw (sh .is) (next-held (sh .kind) (sh .tc) (sh .ends))
-
-    -- a frame like the one behind it
-    pub held-like : 1 ≤ n → 7 ≤ u → isLike (getD p (u - 1) 0) b ≡ true → Held p (u - 7) (n + 1) c (d + b) b
-    unfolding here
-    held-like some seven l = go (h .later) (h .frames) (h .mark)
-      where
-        go : (fs : List Frame) → n ≡ length fs → b ≡ left fs → Held p (u - 7) (n + 1) c (d + b) b
-        go [] e m = absurd (omega arith)
-        go (f ∷ fs) e m =
-            let y = like p u seven (os (u - 1)) (f .kind) (rw m at l) in
-            let i : here ≡ got (y .kind) 0 = ap (λ (z : ℕ). barred z (lastFrame p u)) m ∙ y .ends in
-            let z : c + 0 ≡ c = omega arith in
-            rw (y .seven, y .bare, y .marked, ← m, z) at (next-held (y .kind) 0 i)
-
--- what the loop over like frames keeps, which began where u₀ octets were unread
-pub record Alike (p : List ℕ) (u₀ u n c d b : ℕ) : Type 0 where
-  pub held : Held p u n c d b
-  pub some : 1 ≤ n
-  pub less : u ≤ u₀
-
-pub alike-next : {p : List ℕ} {u₀ u n c d b : ℕ} → Octets p → Alike p u₀ u n c d b → 7 < u → isLike (getD p (u - 1) 0) b ≡ true → Alike p u₀ (u - 7) (n + 1) c (d + b) b
-alike-next {p} {u₀} {u} {n} {c} {d} {b} os h l e = record {
-  held = held-like p u n c d b (h .held) (omega arith) os (h .some) (omega arith) e;
-  some = omega arith;
-  less = omega (arith, h .less);
-}
+    pub held-got : Held p (u - x .wire) (n + 1) (o + x .body) (x .rate) (d + x .ticks) (x .before)
+    held-got = rw (sh .is) (next-held (sh .kind) (sh .tc) (sh .ends) whole)

@@ -1,5 +1,4 @@
 pub mod Held
-pub mod Sums
 pub mod Seen
 pub mod Onward
 pub mod Stored

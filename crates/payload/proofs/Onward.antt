@@ -7,7 +7,7 @@ use native.Mathlib.Omega.{arith}
 use lib.ListN.{length, take, length-append}
 use borrow.Author.Tests.{lt-ltb, le-ltb}
 use Rattle.wire.specs.Frame.{Frame, Kind, Octets, wireLength, bodiesOf}
-use Rattle.wire.specs.Walk.{Ending, bad, got, ending, lastFrame, beside, seen, turn, next, frameAt, run, readOf, at, shapeOf, foundOf}
+use Rattle.wire.specs.Walk.{Ending, bad, got, ending, lastFrame, beside, seen, turn, frameAt, run, readOf, at, shapeOf, foundOf}
 use Rattle.wire.specs.declared.Shape.{Shape}
 use Rattle.wire.specs.declared.Found.{Found}
 use Rattle.wire.specs.declared.Found.the-variants.{Bad, Got}

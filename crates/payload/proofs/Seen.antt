@@ -1,20 +1,18 @@
 -- What the walk's answer says of the payload, by cases: for all who ask it.
 use mathlib.Core.Path.{_≡_, refl, sym, ap, _∙_, subst}
 use mathlib.Core.List.{List}
-use Prim.Native.Nat.{ℕ, zero, suc, _-_, _≤_}
+use Prim.Native.Nat.{ℕ, zero, suc}
 use native.Mathlib.Omega.{arith}
 use Rattle.refusal.specs.declared.Refusal.{Refusal}
-use lib.ListN.{length}
-use Rattle.wire.specs.Frame.{Frame, Octets, Legal, octetsOf, bodiesOf, ticksOf}
+use Rattle.wire.specs.Frame.{Frame, Octets, Legal, octetsOf}
 use Rattle.wire.specs.Walk.{Walk, at, refused, readOf}
 use Rattle.wire.proofs.Complete.{complete}
 use Rattle.wire.proofs.Sound.{sound, Ended, read-ends}
-use Rattle.wire.proofs.Ranges.{InRange, in-range, frames-most}
-use Rattle.payload.specs.Reading.{refuse, countsOf, extent, ticksIn, walkedOf, walkReport, walkNumbers, Walks}
+use Rattle.wire.proofs.Ranges.{InRange, in-range}
+use Rattle.payload.specs.Reading.{refuse, extent, walkedOf, walkReport, walkNumbers, Walks}
 use Rattle.payload.specs.declared.Extent.{Extent}
 use Rattle.payload.specs.declared.Walked.{Walked}
 use Rattle.payload.specs.declared.Walked.the-variants as walked
-use Rattle.payload.proofs.Sums.{counts-bodies, ticks-in}
 
 -- a legal sequence that gives the payload is what the walk reads
 pub reads-it : (p : List ℕ) (fs : List Frame) → Legal fs → octetsOf fs ≡ p → readOf p ≡ at 0 fs
@@ -53,10 +51,6 @@ view p o = go (readOf p) refl (read-ends p)
     go (at (suc u) fs) q h = absurd h
     go (at zero fs) q h = let w = sound p fs o q in over (record { fs = fs; reads = q; legal = w .0; gives = w .1 })
 
--- what is no count is a body's
-pub octets-left : {p : List ℕ} (fs : List Frame) → octetsOf fs ≡ p → length p - countsOf fs ≡ length (bodiesOf fs)
-octets-left fs g = omega (arith, counts-bodies fs, ap length g)
-
 -- ---- the walk's answer
 
 module _ (p : List ℕ) (o : Octets p) {s : Walked} (is : s ≡ walkedOf (readOf p)) where
@@ -67,14 +61,6 @@ module _ (p : List ℕ) (o : Octets p) {s : Walked} (is : s ≡ walkedOf (readOf
       go (over a) q = let f : extent (a .fs) ≡ x = cc in (a, sym f)
       go (not y d) q = absurd (let z : _≡_ {A = ℕ} 0 1 = cc in omega arith)
 
-  -- its ticks are those of the frames
-  pub ticks-seen : (x : Extent) (e : s ≡ walked.Whole x) → ticksIn x ≡ ticksOf (went x e .0 .fs)
-  ticks-seen x e = let w = went x e in ap ticksIn (w .1) ∙ ticks-in (w .0 .fs) (frames-most (w .0 .fs) (w .0 .legal))
-
-  -- its counts are octets of the payload
-  pub counts-most : (x : Extent) → s ≡ walked.Whole x → x .counts ≤ length p
-  counts-most x e = let w = went x e in omega (arith, ap (λ (y : Extent). y .counts) (w .1), counts-bodies (w .0 .fs), ap length (w .0 .gives))
-
   pub stopped : (x : Refusal) → s ≡ walked.Refused x → Denied p x
   stopped x e = go (view p o) (sym is ∙ e)
     where
@@ -84,9 +70,9 @@ module _ (p : List ℕ) (o : Octets p) {s : Walked} (is : s ≡ walkedOf (readOf
 
 -- ---- what it promises, from its answer
 
-pub walks : (p : List ℕ) → Octets p → {r : Walked} → r ≡ walkedOf (readOf p) → Walks p r
-walks p o e = record { answer = e; numbers = ap (walkReport (length p)) e ∙ go (view p o) }
+pub walks : (p : List ℕ) {r : Walked} → r ≡ walkedOf (readOf p) → Walks p r
+walks p e = record { answer = e; numbers = ap walkReport e ∙ go (readOf p) }
   where
-    go : {w : Walk} → View p w → walkReport (length p) (walkedOf w) ≡ walkNumbers w
-    go (over a) = rw (octets-left (a .fs) (a .gives), ticks-in (a .fs) (frames-most (a .fs) (a .legal)))
-    go (not x d) = refl
+    go : (w : Walk) → walkReport (walkedOf w) ≡ walkNumbers w
+    go (at u fs) = refl
+    go (refused n place later) = refl

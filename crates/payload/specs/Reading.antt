@@ -1,14 +1,14 @@
 -- What reading a payload answers, and what the lent rows and bodies hold afterwards: document 01, "Reader".
 use mathlib.Core.Path.{_≡_}
 use mathlib.Core.Bool.{cond}
-use mathlib.Core.List.{List, [], _∷_, _++_}
-use Prim.Native.Nat.{ℕ, _+_, _-_, _*_, _/_, _%_}
+use mathlib.Core.List.{List, _++_}
+use Prim.Native.Nat.{ℕ, _*_, _/_}
 use lib.Dec.{ltb}
 use lib.ListN.{length, drop}
 use Rattle.refusal.specs.Numbers.{shortList, shortBuffer}
 use Rattle.refusal.specs.declared.Refusal.{Refusal}
-use Rattle.wire.specs.Frame.{Frame, countOf, rowsOf, bodiesOf, ticksOf}
-use Rattle.wire.specs.Walk.{Walk, at, refused, mark, readOf}
+use Rattle.wire.specs.Frame.{Frame, rowsOf, bodiesOf, ticksOf}
+use Rattle.wire.specs.Walk.{Walk, at, refused, seen, readOf}
 use Rattle.payload.specs.declared.Extent.{Extent}
 use Rattle.payload.specs.declared.Walked.{Walked}
 use Rattle.payload.specs.declared.Walked.the-variants as walked
@@ -19,27 +19,9 @@ use Rattle.payload.specs.declared.Reading.the-variants as reading
 abbrev pub refuse : ℕ → ℕ → Refusal
 refuse n place = record { number = n; place = place }
 
--- the octets of a sequence's counts
-abbrev pub countsOf : List Frame → ℕ
-countsOf [] = 0
-countsOf (f ∷ fs) = length (countOf (f .kind) (f .tc)) + countsOf fs
-
--- the sum of a sequence's marks
-abbrev pub marksOf : List Frame → ℕ
-marksOf [] = 0
-marksOf (f ∷ fs) = mark (f .kind) + marksOf fs
-
--- what the walk comes to: frames, octets of counts, marks
+-- what the walk comes to: frames, body octets, rate, ticks
 abbrev pub extent : List Frame → Extent
-extent fs = record { frames = length fs; counts = countsOf fs; marks = marksOf fs }
-
--- the octets of bodies among n octets of a payload: those of no count
-abbrev pub octetsIn : ℕ → Extent → ℕ
-octetsIn n x = n - x .counts
-
--- its ticks: the lower fifteen bits of a mark are what its frame lasts, in units of six ticks
-abbrev pub ticksIn : Extent → ℕ
-ticksIn x = x .marks % 32768 * 6
+extent fs = record { frames = length fs; octets = length (bodiesOf fs); rate = seen fs; ticks = ticksOf fs }
 
 -- what a walk comes to, in numbers
 abbrev pub walkedOf : Walk → Walked
@@ -94,19 +76,20 @@ pub record WalkReport : Type 0 where
   pub place : ℕ
   pub frames : ℕ
   pub octets : ℕ
+  pub rate : ℕ
   pub ticks : ℕ
 
--- the numbers of each case of the walk's answer to a payload of n octets
-abbrev pub walkReport : ℕ → Walked → WalkReport
-walkReport n (walked.Whole x) = record { number = 0; place = 0; frames = x .frames; octets = octetsIn n x; ticks = ticksIn x }
-walkReport n (walked.Refused x) = record { number = x .number; place = x .place; frames = 0; octets = 0; ticks = 0 }
+-- the numbers of each case of the walk's answer
+abbrev pub walkReport : Walked → WalkReport
+walkReport (walked.Whole x) = record { number = 0; place = 0; frames = x .frames; octets = x .octets; rate = x .rate; ticks = x .ticks }
+walkReport (walked.Refused x) = record { number = x .number; place = x .place; frames = 0; octets = 0; rate = 0; ticks = 0 }
 
 -- the numbers of a walk
 abbrev pub walkNumbers : Walk → WalkReport
-walkNumbers (at u fs) = record { number = 0; place = 0; frames = length fs; octets = length (bodiesOf fs); ticks = ticksOf fs }
-walkNumbers (refused n place later) = record { number = n; place = place; frames = 0; octets = 0; ticks = 0 }
+walkNumbers (at u fs) = record { number = 0; place = 0; frames = length fs; octets = length (bodiesOf fs); rate = seen fs; ticks = ticksOf fs }
+walkNumbers (refused n place later) = record { number = n; place = place; frames = 0; octets = 0; rate = 0; ticks = 0 }
 
 -- what `walk` promises of a payload p
 pub record Walks (p : List ℕ) (r : Walked) : Type 0 where
   pub answer : r ≡ walkedOf (readOf p)
-  pub numbers : walkReport (length p) r ≡ walkNumbers (readOf p)
+  pub numbers : walkReport r ≡ walkNumbers (readOf p)

@@ -3,7 +3,8 @@ ghost use mathlib.Core.Path.{_≡_};
 ghost use Prim.Native.Nat.{_+_, _*_, _≤_, _<_};
 ghost use lib.ListN.{length, set, drop};
 ghost use lib.Seq.{paste};
-ghost use Rattle.payload.specs.Reading.{Walks, octetsIn, ticksIn, readInto};
+ghost use Rattle.wire.specs.Walk.{readOf};
+ghost use Rattle.payload.specs.Reading.{Walks, walkedOf, readInto};
 ghost use Rattle.payload.specs.Filling.{Known, BodyFits, FrameFits, put, bodyAt};
 ghost use Rattle.payload.specs.Promise.{Reads};
 use refusal::Refusal;
@@ -18,12 +19,12 @@ pub use writer::write;
 
 const MOST_OCTETS: usize = 1400;
 
-// What the walk over a payload comes to: frames, octets of their counts, and the sum of their marks. `octets_of` makes the
-// octets of bodies of it, and `ticks_of` the ticks.
+// What the walk over a payload comes to: frames, octets of their bodies, their rate (0 where there is no coder frame), ticks.
 pub struct Extent {
     pub frames: usize,
-    pub counts: usize,
-    pub marks: u32,
+    pub octets: usize,
+    pub rate: u32,
+    pub ticks: u32,
 }
 
 // An empty payload is whole and holds no frames; a refused one is the other case.
@@ -38,25 +39,19 @@ pub enum Reading {
     Refused(Refusal),
 }
 
-// The walk, from the payload's end to its front: all that is asked of a payload is asked here first. The frames before one that
-// are like it, of which only the last octet has to be asked, are gone over in a loop of their own; the first one is left to the
-// step, which asks whether the octets that are left are a whole frame.
-pub fn walk(payload: &[u8]) -> Walked
-    ensures { λ r. ⌜ Walks (now (payload .entry)) r ⌝ }
+// The walk over a payload that is not too long, from its end to its front.
+fn walk_back(payload: &[u8]) -> Walked
+    requires { ⌜ length (now payload) ≤ 1400 ⌝ }
+    ensures { λ r. ⌜ r ≡ walkedOf (readOf (now (payload .entry))) ⌝ }
 {
-    if MOST_OCTETS < payload.len() {
-        return Walked::Refused(Refusal {
-            number: refusal::TOO_LONG,
-            place: MOST_OCTETS,
-        });
-    }
     let mut unread = payload.len();
     let mut frames: usize = 0;
-    let mut counts: usize = 0;
-    let mut marks: u32 = 0;
-    let mut behind: u32 = 0;
+    let mut octets: usize = 0;
+    let mut rate: u32 = 0;
+    let mut ticks: u32 = 0;
+    let mut allowed = wire::anything();
     while 0 < unread {
-        let found = wire::step(&payload[..unread], behind);
+        let found = wire::step(&payload[..unread], allowed);
         match found {
             Found::Bad(number) => {
                 return Walked::Refused(Refusal {
@@ -67,55 +62,32 @@ pub fn walk(payload: &[u8]) -> Walked
             Found::Got(shape) => {
                 unread -= shape.wire;
                 frames += 1;
-                counts += shape.count;
-                behind = shape.mark;
-                marks += behind;
-                // A payload of one frame leaves here at once.
-                if unread == 0 {
-                    break;
-                }
-                while 7 < unread {
-                    if !wire::is_like(payload[unread - 1], behind) {
-                        break;
-                    }
-                    unread -= 7;
-                    frames += 1;
-                    marks += behind;
-                }
+                octets += shape.body;
+                rate = shape.rate;
+                ticks += shape.ticks;
+                allowed = shape.before;
             }
         }
     }
     Walked::Whole(Extent {
         frames,
-        counts,
-        marks,
+        octets,
+        rate,
+        ticks,
     })
 }
 
-// The octets that are of no count: those of bodies.
-fn uncounted(payload: &[u8], extent: Extent) -> usize
-    requires { ⌜ extent .counts ≤ length (now payload) ⌝ }
-    ensures { λ r. ⌜ r ≡ octetsIn (length (now (payload .entry))) extent ⌝ }
+// The walk: all that is asked of a payload is asked here first. Its length comes first.
+pub fn walk(payload: &[u8]) -> Walked
+    ensures { λ r. ⌜ Walks (now (payload .entry)) r ⌝ }
 {
-    payload.len() - extent.counts
-}
-
-// The octets of bodies in a payload that a walk went over; 0 where the counts are more than the payload's octets, which no walk
-// answers.
-pub fn octets_of(payload: &[u8], extent: Extent) -> usize
-    ensures { λ r. ⌜ r ≡ octetsIn (length (now (payload .entry))) extent ⌝ }
-{
-    if payload.len() < extent.counts {
-        return 0;
+    if payload.len() <= MOST_OCTETS {
+        return walk_back(payload);
     }
-    uncounted(payload, extent)
-}
-
-// The ticks of the frames that a walk went over.
-pub fn ticks_of(extent: Extent) -> u32
-    ensures { λ r. ⌜ r ≡ ticksIn extent ⌝ }
-{
-    extent.marks % 32768 * 6
+    Walked::Refused(Refusal {
+        number: refusal::TOO_LONG,
+        place: MOST_OCTETS,
+    })
 }
 
 // Copies len octets of src, from an index on, into dst at an index.
@@ -209,7 +181,7 @@ pub fn read(payload: &[u8], rows: &mut [u16], bodies: &mut [u8]) -> Reading
         Walked::Refused(refusal) => Reading::Refused(refusal),
         Walked::Whole(extent) => {
             let n = extent.frames;
-            let m = uncounted(payload, extent);
+            let m = extent.octets;
             if rows.len() / 2 < n {
                 return Reading::Refused(Refusal {
                     number: refusal::SHORT_LIST,

@@ -352,8 +352,9 @@ fn say_walk(payload: &[u8]) {
         Walked::Refused(r) => say_refused(r),
         Walked::Whole(extent) => {
             say_number(extent.frames);
-            say_number(payload::octets_of(payload, extent));
-            say_number(payload::ticks_of(extent) as usize);
+            say_number(extent.octets);
+            say_number(extent.rate as usize);
+            say_number(extent.ticks as usize);
         }
     }
 }

@@ -1,16 +1,16 @@
--- 6 and 8 in bits are the walk's own: what may not stand behind a frame, and what the frames read leave.
+-- 6 and 8 in bits are the walk's own: what a frame is, and what the frames read allow.
 use mathlib.Core.Path.{_≡_, refl, sym, ap, _∙_}
 use mathlib.Core.Bool.{Bool, true, false, cond}
 use mathlib.Core.List.{List, [], _∷_}
 use Prim.Native.Nat.{ℕ, suc, _+_, _-_, _≤_, _<_}
 use native.Mathlib.Omega.{arith}
-use lib.Bits.{bitAnd, bitXor}
+use lib.Bits.{bitAnd}
 use lib.Dec.{ltb, eqb}
 use lib.ListN.{length, getD}
 use borrow.Author.Tests.{ne-eqb, eq-eqb, lt-ltb}
 use Rattle.wire.specs.Frame.{Frame, Kind, bps2400, bps1200, bps600, noise, tsvcis, countOf, rate, size, wireLength}
-use Rattle.wire.specs.Walk.{Ending, bad, got, ending, foreign, whole, lastFrame, clash, beside, seen, mark, rateBits, bars, shapeOf, foundOf}
-use Rattle.wire.specs.Step.{left, barred, barredAs, barShape, fitShape, fitted, rated}
+use Rattle.wire.specs.Walk.{Ending, bad, got, ending, foreign, whole, lastFrame, clash, beside, seen, own, before, shapeOf, foundOf}
+use Rattle.wire.specs.Step.{allowed, barred, barredAs, barShape, fitShape, fitted, rated}
 use Rattle.wire.specs.declared.Shape.{Shape}
 use Rattle.wire.specs.declared.Found.{Found}
 use Rattle.wire.specs.declared.Found.the-variants.{Bad, Got}
@@ -23,18 +23,18 @@ module _ (u b : ℕ) (x : Shape) where
   admit-cut h = ap (rated b) (fit-cut u x h)
 
   module _ (h : x .wire ≤ u) where
-    pub admit-got : bitAnd b (bitXor (x .mark) rateBits) ≡ 0 → Got x ≡ rated b (fitShape u x)
+    pub admit-got : (bitAnd b (x .own) ≡ 0 → ⊥) → Got x ≡ rated b (fitShape u x)
     unfolding barShape
-    admit-got z = simp (eq-eqb (bitAnd b (bitXor (x .mark) rateBits)) 0 z) refl ∙ ap (rated b) (fit-got u x h)
+    admit-got z = simp (ne-eqb (bitAnd b (x .own)) 0 z) refl ∙ ap (rated b) (fit-got u x h)
 
-    module _ (z : bitAnd b (bitXor (x .mark) rateBits) ≡ 0 → ⊥) where
+    module _ (z : bitAnd b (x .own) ≡ 0) where
       pub admit-late : x .wire ≡ 2 → Bad 6 ≡ rated b (fitShape u x)
       unfolding barShape
-      admit-late e = simp (ne-eqb (bitAnd b (bitXor (x .mark) rateBits)) 0 z, eq-eqb (x .wire) 2 e) refl ∙ ap (rated b) (fit-got u x h)
+      admit-late e = simp (eq-eqb (bitAnd b (x .own)) 0 z, eq-eqb (x .wire) 2 e) refl ∙ ap (rated b) (fit-got u x h)
 
       pub admit-mixed : (x .wire ≡ 2 → ⊥) → Bad 8 ≡ rated b (fitShape u x)
       unfolding barShape
-      admit-mixed e = simp (ne-eqb (bitAnd b (bitXor (x .mark) rateBits)) 0 z, ne-eqb (x .wire) 2 e) refl ∙ ap (rated b) (fit-got u x h)
+      admit-mixed e = simp (eq-eqb (bitAnd b (x .own)) 0 z, ne-eqb (x .wire) 2 e) refl ∙ ap (rated b) (fit-got u x h)
 
 -- ---- the step
 
@@ -53,7 +53,7 @@ module _ (p : List ℕ) (u : ℕ) where
   unfolding lastFrame
   told-last = told-whole (ending p u) (told-ending p u)
 
--- the refusal of a frame that is barred, from its octets: comfort noise, which has no TC, is the one frame of two
+-- the refusal of a frame that may not stand there, from its octets: comfort noise, which has no TC, is the one frame of two
 barred-by : (k : Kind) (t : ℕ) → Told (got k t) → cond (eqb (wireLength k t) 2) 6 8 ≡ barredAs k
 unfolding countOf
 barred-by bps2400 t m = simp (ne-eqb (wireLength bps2400 t) 2 (λ e. omega arith))
@@ -66,10 +66,10 @@ rated-is : (b : ℕ) (e : Ending) → Told e → rated b (foundOf e) ≡ foundOf
 unfolding barShape barred
 rated-is b (bad n) m = refl
 rated-is b (got k t) m =
-    ap (λ (n : ℕ). cond (eqb (bitAnd b (bars k)) 0) (Got (shapeOf k t)) (Bad n)) (barred-by k t m)
-    ∙ pick (barredAs k) (eqb (bitAnd b (bars k)) 0)
+    ap (λ (n : ℕ). cond (eqb (bitAnd b (own k)) 0) (Bad n) (Got (shapeOf k t))) (barred-by k t m)
+    ∙ pick (barredAs k) (eqb (bitAnd b (own k)) 0)
   where
-    pick : (n : ℕ) (a : Bool) → cond a (Got (shapeOf k t)) (Bad n) ≡ foundOf (cond a (got k t) (bad n))
+    pick : (n : ℕ) (a : Bool) → cond a (Bad n) (Got (shapeOf k t)) ≡ foundOf (cond a (bad n) (got k t))
     pick n true = refl
     pick n false = refl
 
@@ -86,51 +86,51 @@ module _ (p : List ℕ) (u b : ℕ) (r : Found) (k : fitted u r ≡ foundOf (las
 
 -- ---- the walk's own words
 
--- nothing behind a frame bars it
-bars-none : (k : Kind) (t : ℕ) → beside 0 0 (got k t) ≡ barred 0 (got k t)
+-- where nothing is read, any frame may stand
+beside-none : (k : Kind) (t : ℕ) → beside 0 0 (got k t) ≡ barred 15 (got k t)
 unfolding beside barred clash
-bars-none bps2400 t = refl
-bars-none bps1200 t = refl
-bars-none bps600 t = refl
-bars-none noise t = refl
-bars-none tsvcis t = refl
+beside-none bps2400 t = refl
+beside-none bps1200 t = refl
+beside-none bps600 t = refl
+beside-none noise t = refl
+beside-none tsvcis t = refl
 
 -- a frame of kind k before frames whose first is of kind j
 module _ (n t : ℕ) where
   some : ltb 0 (suc n) ≡ true
   some = lt-ltb 0 (suc n) (omega arith)
 
-  bars-some : (k j : Kind) → beside (suc n) (rate j) (got k t) ≡ barred (mark j) (got k t)
+  beside-some : (k j : Kind) → beside (suc n) (rate j) (got k t) ≡ barred (before j) (got k t)
   unfolding beside barred clash
-  bars-some bps2400 bps2400 = refl
-  bars-some bps2400 bps1200 = refl
-  bars-some bps2400 bps600 = refl
-  bars-some bps2400 noise = refl
-  bars-some bps2400 tsvcis = refl
-  bars-some bps1200 bps2400 = refl
-  bars-some bps1200 bps1200 = refl
-  bars-some bps1200 bps600 = refl
-  bars-some bps1200 noise = refl
-  bars-some bps1200 tsvcis = refl
-  bars-some bps600 bps2400 = refl
-  bars-some bps600 bps1200 = refl
-  bars-some bps600 bps600 = refl
-  bars-some bps600 noise = refl
-  bars-some bps600 tsvcis = refl
-  bars-some noise bps2400 = simp some
-  bars-some noise bps1200 = simp some
-  bars-some noise bps600 = simp some
-  bars-some noise noise = simp some
-  bars-some noise tsvcis = simp some
-  bars-some tsvcis bps2400 = refl
-  bars-some tsvcis bps1200 = refl
-  bars-some tsvcis bps600 = refl
-  bars-some tsvcis noise = refl
-  bars-some tsvcis tsvcis = refl
+  beside-some bps2400 bps2400 = refl
+  beside-some bps2400 bps1200 = refl
+  beside-some bps2400 bps600 = refl
+  beside-some bps2400 noise = refl
+  beside-some bps2400 tsvcis = refl
+  beside-some bps1200 bps2400 = refl
+  beside-some bps1200 bps1200 = refl
+  beside-some bps1200 bps600 = refl
+  beside-some bps1200 noise = refl
+  beside-some bps1200 tsvcis = refl
+  beside-some bps600 bps2400 = refl
+  beside-some bps600 bps1200 = refl
+  beside-some bps600 bps600 = refl
+  beside-some bps600 noise = refl
+  beside-some bps600 tsvcis = refl
+  beside-some noise bps2400 = simp some
+  beside-some noise bps1200 = simp some
+  beside-some noise bps600 = simp some
+  beside-some noise noise = simp some
+  beside-some noise tsvcis = simp some
+  beside-some tsvcis bps2400 = refl
+  beside-some tsvcis bps1200 = refl
+  beside-some tsvcis bps600 = refl
+  beside-some tsvcis noise = refl
+  beside-some tsvcis tsvcis = refl
 
--- what the frames read leave bars a frame exactly where the walk refuses it beside them
-pub beside-barred : (later : List Frame) (e : Ending) → beside (length later) (seen later) e ≡ barred (left later) e
+-- what the frames read allow keeps a frame out exactly where the walk refuses it beside them
+pub beside-barred : (later : List Frame) (e : Ending) → beside (length later) (seen later) e ≡ barred (allowed later) e
 unfolding beside barred
 beside-barred later (bad n) = refl
-beside-barred [] (got k t) = bars-none k t
-beside-barred (f ∷ fs) (got k t) = bars-some (length fs) t k (f .kind)
+beside-barred [] (got k t) = beside-none k t
+beside-barred (f ∷ fs) (got k t) = beside-some (length fs) t k (f .kind)

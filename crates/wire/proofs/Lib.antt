@@ -2,7 +2,6 @@ pub mod Tables
 pub mod Octets
 pub mod Steps
 pub mod InPlace
-pub mod Like
 pub mod Complete
 pub mod Ended
 pub mod Sound

@@ -43,3 +43,6 @@ ticks-of-kind bps1200 = refl
 ticks-of-kind bps600 = refl
 ticks-of-kind noise = refl
 ticks-of-kind tsvcis = refl
+
+pub kind-ticks-most : (k : Kind) → ticks k ≤ 720
+kind-ticks-most k = omega (arith, ticks-of-kind k, ticks-most (rate k))

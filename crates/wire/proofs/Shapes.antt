@@ -8,7 +8,7 @@ use native.Mathlib.Omega.{arith}
 use lib.Dec.{ltb, eqb}
 use lib.ListN.{getD, length}
 use borrow.Author.Tests.{lt-ltb, le-ltb, eqb-false}
-use Rattle.wire.specs.Frame.{Kind, bps2400, bps1200, bps600, noise, tsvcis, isShort, size, wireLength}
+use Rattle.wire.specs.Frame.{Kind, bps2400, bps1200, bps600, noise, tsvcis, isShort, size, countOf, wireLength}
 use Rattle.wire.specs.Walk.{Ending, bad, got, named, counted, ending, foreign, whole, lastFrame, shapeOf, foundOf}
 use Rattle.wire.specs.Step.{basedShape, fitShape, fitted, CountEnd}
 use Rattle.wire.specs.declared.Shape.{Shape}
@@ -42,6 +42,11 @@ module _ (u : ℕ) (x : Shape) where
   pub fit-got : x .wire ≤ u → Got x ≡ fitShape u x
   unfolding fitShape
   fit-got h = simp (le-ltb u (x .wire) h)
+
+-- comfort noise that is not whole
+pub noise-cut : (u : ℕ) → u < 2 → Bad 2 ≡ fitted u (Got (shapeOf noise 0))
+unfolding countOf
+noise-cut u h = fit-cut u (shapeOf noise 0) h
 
 -- ---- what the code found, as the walk has it
 
@@ -92,15 +97,15 @@ module _ (p : List ℕ) (u : ℕ) where
   fitted-plain k f e ex = ap (fitShape u) ex ∙ rw e (plain-whole k f)
 
   -- a last octet from 128 to 191
-  pub fitted-other : (x : ℕ) → 128 ≤ x → x < 192 → ending p u ≡ named x → {r : Found} → r ≡ foundOf (named x) → fitted u r ≡ foundOf (lastFrame p u)
-  fitted-other x l h e {r} er = go (below-or x 130) (below-or x 160)
+  pub fitted-other : (x : ℕ) → 128 ≤ x → x < 192 → ending p u ≡ named x → (r : Found) → fitted u r ≡ fitted u (foundOf (named x)) → fitted u r ≡ foundOf (lastFrame p u)
+  fitted-other x l h e r er = go (below-or x 130) (below-or x 160)
     where
       plain : (k : Kind) → ((y : ℕ) → foreign k y ≡ false) → named x ≡ got k 0 → fitted u r ≡ foundOf (lastFrame p u)
-      plain k f n = ap (fitted u) (er ∙ ap foundOf n) ∙ fitted-plain k f (e ∙ n) refl
+      plain k f n = er ∙ ap (λ (q : Ending). fitted u (foundOf q)) n ∙ fitted-plain k f (e ∙ n) refl
 
       go : (x < 130) ⊎ (130 ≤ x) → (x < 160) ⊎ (160 ≤ x) → fitted u r ≡ foundOf (lastFrame p u)
       go (inl c) d = plain bps1200 (λ y. refl) (named-1200 x l c)
-      go (inr c) (inl d) = let n = named-foreign x c d in ap (fitted u) (er ∙ ap foundOf n) ∙ fitted-bad 3 (e ∙ n)
+      go (inr c) (inl d) = let n = named-foreign x c d in er ∙ ap (λ (q : Ending). fitted u (foundOf q)) n ∙ fitted-bad 3 (e ∙ n)
       go (inr c) (inr d) = plain noise (λ y. refl) (named-noise x d h)
 
   -- what was found in the walk's own words

@@ -1,21 +1,21 @@
 -- One step of the walk in a shape's numbers, as the code takes it; proofs/Shapes.antt ties it to the walk's own words.
 use mathlib.Core.Path.{_≡_}
-use mathlib.Core.Bool.{Bool, cond}
+use mathlib.Core.Bool.{cond}
 use Prim.Native.Nat.{ℕ, _+_, _-_, _≤_, _<_}
 use mathlib.Core.List.{List, [], _∷_}
-use lib.Bits.{bitAnd, bitXor}
+use lib.Bits.{bitAnd}
 use lib.Dec.{ltb, eqb}
 use lib.ListN.{length, getD}
 use Rattle.refusal.specs.Numbers.{cutFrame, noiseNotLast, notBehind2400, mixedRates}
 use Rattle.wire.specs.Frame.{Frame, Kind, bps2400, bps1200, bps600, noise, tsvcis, countOf}
-use Rattle.wire.specs.Walk.{Ending, bad, got, mark, rateBits, bars}
+use Rattle.wire.specs.Walk.{Ending, bad, got, own, before}
 use Rattle.wire.specs.declared.Shape.{Shape}
 use Rattle.wire.specs.declared.Found.{Found}
 use Rattle.wire.specs.declared.Found.the-variants.{Bad, Got}
 
 -- the numbers of a frame whose base is all of it
-abbrev pub plainShape : ℕ → ℕ → ℕ → ℕ → Shape
-plainShape n k c m = record { kind = n; tc = 0; size = k; code = c; mark = m; wire = k; body = k; count = 0 }
+abbrev pub plainShape : ℕ → ℕ → ℕ → ℕ → ℕ → ℕ → ℕ → Shape
+plainShape n k c o b s d = record { kind = n; tc = 0; size = k; code = c; own = o; before = b; rate = s; ticks = d; wire = k; body = k }
 
 -- a frame of these numbers with augmentation, if u unread octets hold it whole and it stands behind a 2400 bps frame
 unfoldable pub basedShape : List ℕ → ℕ → Shape → Found
@@ -30,22 +30,22 @@ abbrev pub fitted : ℕ → Found → Found
 fitted u (Bad n) = Bad n
 fitted u (Got x) = fitShape u x
 
--- a frame of these numbers, if the bits b behind it have none that only other rates' marks have; 6 where it is comfort noise,
--- the one frame of two octets
+-- a frame of these numbers, if its own bit is among the bits b that are allowed; if not, 6 where it is comfort noise, the one frame
+-- of two octets
 unfoldable pub barShape : ℕ → Shape → Found
-barShape b x = cond (eqb (bitAnd b (bitXor (x .mark) rateBits)) 0) (Got x) (Bad (cond (eqb (x .wire) 2) noiseNotLast mixedRates))
+barShape b x = cond (eqb (bitAnd b (x .own)) 0) (Bad (cond (eqb (x .wire) 2) noiseNotLast mixedRates)) (Got x)
 
 -- what was found, put to the same
 abbrev pub rated : ℕ → Found → Found
 rated b (Bad n) = Bad n
 rated b (Got x) = barShape b x
 
--- the mark that the frames read leave for those before them: that of the last one read; 0 where nothing is read
-abbrev pub left : List Frame → ℕ
-left [] = 0
-left (f ∷ fs) = mark (f .kind)
+-- the bits that the frames read allow: what may stand before the last one read; all four where nothing is read
+abbrev pub allowed : List Frame → ℕ
+allowed [] = 15
+allowed (f ∷ fs) = before (f .kind)
 
--- the refusal of a frame of the kind before one that bars it
+-- the refusal of a frame of the kind where it may not stand
 abbrev pub barredAs : Kind → ℕ
 barredAs bps2400 = mixedRates
 barredAs bps1200 = mixedRates
@@ -53,16 +53,11 @@ barredAs bps600 = mixedRates
 barredAs noise = noiseNotLast
 barredAs tsvcis = mixedRates
 
--- 6 and 8 in bits, for any number b as the mark behind; proofs/Barred.antt shows it to be the walk's `beside` where b is
--- what the frames read leave
+-- 6 and 8 in bits, for any number b as the bits allowed; proofs/Barred.antt shows it to be the walk's `beside` where b is
+-- what the frames read allow
 unfoldable pub barred : ℕ → Ending → Ending
 barred b (bad n) = bad n
-barred b (got k t) = cond (eqb (bitAnd b (bars k)) 0) (got k t) (bad (barredAs k))
-
--- a last octet x is that of a frame like the one behind it, whose mark is m: of seven octets, without augmentation, and of
--- the same rate; proofs/Like.antt shows it for the marks of all kinds
-abbrev pub isLike : ℕ → ℕ → Bool
-isLike x m = ltb (bitXor x m) 64
+barred b (got k t) = cond (eqb (bitAnd b (own k)) 0) (bad (barredAs k)) (got k t)
 
 -- the octets end in x, an octet of a count
 pub record CountEnd (p : List ℕ) (x : ℕ) : Type 0 where

@@ -3,11 +3,10 @@
 use mathlib.Core.Bool.{Bool, false, cond, not}
 use mathlib.Core.List.{List, [], _∷_}
 use Prim.Native.Nat.{ℕ, zero, suc, _+_, _-_}
-use lib.Bits.{bitXor}
 use lib.Dec.{ltb, eqb}
 use lib.ListN.{length, getD, set, take, drop}
 use Rattle.refusal.specs.Numbers.{tooLong, cutFrame, foreignBits, zeroCount, longCount, noiseNotLast, notBehind2400, mixedRates}
-use Rattle.wire.specs.Frame.{Frame, Kind, bps2400, bps1200, bps600, noise, tsvcis, number, size, code, rate, isShort, countOf, wireLength}
+use Rattle.wire.specs.Frame.{Frame, Kind, bps2400, bps1200, bps600, noise, tsvcis, number, size, code, rate, ticks, isShort, wireLength}
 use Rattle.wire.specs.declared.Shape.{Shape}
 use Rattle.wire.specs.declared.Found.{Found}
 use Rattle.wire.specs.declared.Found.the-variants.{Bad, Got}
@@ -110,22 +109,21 @@ run (suc n) p w = run n p (next p w)
 unfoldable pub readOf : List ℕ → Walk
 readOf p = cond (ltb 1400 (length p)) (refused tooLong 1400 []) (run (length p) p (at (length p) []))
 
--- what a frame is to those before it, as one number, its mark: what it lasts in units of six ticks, whose bits tell the rates
--- apart; 1200 bps and comfort noise, which no frame of seven octets is like, have a bit of their own above those
-abbrev pub mark : Kind → ℕ
-mark bps2400 = 30
-mark bps1200 = 32768 + 90
-mark bps600 = 120
-mark noise = 65536
-mark tsvcis = 30
+-- what a frame is, as one bit: a coder frame of its rate, or comfort noise
+abbrev pub own : Kind → ℕ
+own bps2400 = 1
+own bps1200 = 4
+own bps600 = 2
+own noise = 8
+own tsvcis = 1
 
--- the bits of all rates' marks
-abbrev pub rateBits : ℕ
-rateBits = 32768 + 126
-
--- the bits that may not stand behind a frame: those that only other rates' marks have, or, behind comfort noise, all
-abbrev pub bars : Kind → ℕ
-bars k = bitXor (mark k) rateBits
+-- the bits of what may stand before a frame: a coder frame of its rate; before comfort noise, one of any rate
+abbrev pub before : Kind → ℕ
+before bps2400 = 1
+before bps1200 = 4
+before bps600 = 2
+before noise = 7
+before tsvcis = 1
 
 -- all that the code asks of a frame of a kind and TC, in numbers
 abbrev pub shapeOf : Kind → ℕ → Shape
@@ -134,10 +132,12 @@ shapeOf k t = record {
   tc = t;
   size = size k;
   code = code k;
-  mark = mark k;
+  own = own k;
+  before = before k;
+  rate = rate k;
+  ticks = ticks k;
   wire = wireLength k t;
   body = size k + t;
-  count = length (countOf k t);
 }
 
 -- what stands at the end of the unread octets, as the code answers it

@@ -1,10 +1,11 @@
 // The frame that a payload's unread octets end in: its numbers, all at once, or the refusal of document 01's "Reader".
 ghost use mathlib.Core.Path.{_≡_};
 ghost use Prim.Native.Nat.{_≤_, _<_};
+ghost use mathlib.Core.List.{[]};
 ghost use lib.ListN.{length};
 ghost use Rattle.wire.specs.Frame.{bps2400, bps1200, bps600, noise, tsvcis, ticksOfRate};
 ghost use Rattle.wire.specs.Walk.{named, counted, ending, lastFrame, foundOf, shapeOf};
-ghost use Rattle.wire.specs.Step.{plainShape, basedShape, fitShape, fitted, rated, barred, isLike, CountEnd, CountIs};
+ghost use Rattle.wire.specs.Step.{plainShape, basedShape, fitShape, fitted, rated, allowed, barred, CountEnd, CountIs};
 
 // The kind of a 2400 bps frame without augmentation, the commonest.
 pub const PLAIN_2400: u16 = 1;
@@ -15,31 +16,20 @@ pub const PLAIN_600: u16 = 3;
 // The octets of comfort noise.
 const NOISE_OCTETS: usize = 2;
 
-// A frame's mark says what it is to the frames before it: what it lasts in units of six ticks, whose bits tell the rates
-// apart; 1200 bps and comfort noise have a bit of their own above those (32768 and 65536). One number serves the sum of the
-// ticks, the test of the rate and the test for a like frame.
-const MARK_2400: u32 = 30;
-
-const MARK_1200: u32 = 32858;
-
-const MARK_600: u32 = 120;
-
-const MARK_NOISE: u32 = 65536;
-
-// The bits of all rates' marks.
-const RATE_BITS: u32 = 32894;
-
-// A frame's numbers: kind and TC as in a row, octets of its base, rate code bits, mark, octets on the wire and those of its
-// body and of its count among them.
+// A frame's numbers: kind and TC as in a row, octets of its base, rate code bits, its own bit and the bits of what may stand
+// before it, rate (0 of comfort noise), ticks, octets on the wire and those of its body among them. The bits 1, 2 and 4 are a
+// coder frame of 2400, 600 and 1200 bps, 8 is comfort noise.
 pub struct Shape {
     pub kind: u16,
     pub tc: usize,
     pub size: usize,
     pub code: u8,
-    pub mark: u32,
+    pub own: u32,
+    pub before: u32,
+    pub rate: u32,
+    pub ticks: u32,
     pub wire: usize,
     pub body: usize,
-    pub count: usize,
 }
 
 // What the unread octets end in: a refusal's number, or a frame.
@@ -73,43 +63,45 @@ pub fn ticks_of_rate(rate: u32) -> usize
 // ---- the shapes
 
 // A kind without augmentation, whose base is all that stands on the wire.
-fn plain(kind: u16, size: usize, code: u8, mark: u32) -> Shape
-    ensures { λ r. ⌜ r ≡ plainShape kind size code mark ⌝ }
+fn plain(kind: u16, size: usize, code: u8, own: u32, before: u32, rate: u32, ticks: u32) -> Shape
+    ensures { λ r. ⌜ r ≡ plainShape kind size code own before rate ticks ⌝ }
 {
     Shape {
         kind,
         tc: 0,
         size,
         code,
-        mark,
+        own,
+        before,
+        rate,
+        ticks,
         wire: size,
         body: size,
-        count: 0,
     }
 }
 
 fn shape_2400() -> Shape
     ensures { λ r. ⌜ r ≡ shapeOf bps2400 0 ⌝ }
 {
-    plain(PLAIN_2400, 7, 0, MARK_2400)
+    plain(PLAIN_2400, 7, 0, 1, 1, 2400, 180)
 }
 
 fn shape_1200() -> Shape
     ensures { λ r. ⌜ r ≡ shapeOf bps1200 0 ⌝ }
 {
-    plain(2, 11, 128, MARK_1200)
+    plain(2, 11, 128, 4, 4, 1200, 540)
 }
 
 pub fn shape_600() -> Shape
     ensures { λ r. ⌜ r ≡ shapeOf bps600 0 ⌝ }
 {
-    plain(PLAIN_600, 7, 64, MARK_600)
+    plain(PLAIN_600, 7, 64, 2, 2, 600, 720)
 }
 
 fn shape_noise() -> Shape
     ensures { λ r. ⌜ r ≡ shapeOf noise 0 ⌝ }
 {
-    plain(4, NOISE_OCTETS, 160, MARK_NOISE)
+    plain(4, NOISE_OCTETS, 160, 8, 7, 0, 0)
 }
 
 // A TSVCIS frame of this TC, whose count takes `count` octets.
@@ -122,10 +114,12 @@ fn shape_tsvcis(tc: usize, count: usize) -> Shape
         tc,
         size: 7,
         code: 0,
-        mark: MARK_2400,
+        own: 1,
+        before: 1,
+        rate: 2400,
+        ticks: 180,
         wire: 7 + tc + count,
         body: 7 + tc,
-        count,
     }
 }
 
@@ -150,13 +144,12 @@ fn long_count(tc: usize) -> Found
     requires { ⌜ tc < 256 ⌝ }
     ensures { λ r. ⌜ r ≡ foundOf (counted tc) ⌝ }
 {
-    if tc == 0 {
-        return Found::Bad(refusal::ZERO_COUNT);
-    }
-    if 14 < tc {
-        if tc <= 77 {
-            return Found::Bad(refusal::LONG_COUNT);
+    if tc < 15 {
+        if tc == 0 {
+            return Found::Bad(refusal::ZERO_COUNT);
         }
+    } else if tc <= 77 {
+        return Found::Bad(refusal::LONG_COUNT);
     }
     Found::Got(shape_tsvcis(tc, 2))
 }
@@ -227,8 +220,22 @@ fn tsvcis_frame(unread: &[u8], x: u8) -> Found
     }
 }
 
+// The frame that a last octet x from 128 to 191 names, where comfort noise has to be whole among n unread octets.
+fn other_frame(n: usize, x: u8) -> Found
+    requires { ⌜ (128 ≤ x) × (x < 192) ⌝ }
+    ensures { λ r. ⌜ fitted n r ≡ fitted n (foundOf (named x)) ⌝ }
+{
+    if 159 < x {
+        if n < NOISE_OCTETS {
+            return Found::Bad(refusal::CUT);
+        }
+        return Found::Got(shape_noise());
+    }
+    last_octet(x)
+}
+
 // The frame that the unread octets end in, whole or not, with what TSVCIS alone is asked. The tests are those of `name` in
-// another order: of frames like the next one the walk asks nothing here, so that it is TSVCIS that is asked over and over.
+// another order.
 fn last_frame(unread: &[u8]) -> Found
     ensures { λ r. ⌜ fitted (length (now (unread .entry))) r ≡ foundOf (lastFrame (now (unread .entry)) (length (now (unread .entry)))) ⌝ }
 {
@@ -237,27 +244,27 @@ fn last_frame(unread: &[u8]) -> Found
         return Found::Bad(refusal::CUT);
     }
     let x = unread[n - 1];
-    if x < 128 {
-        if x < 64 {
-            return Found::Got(shape_2400());
+    if x < 64 {
+        return Found::Got(shape_2400());
+    }
+    if x < 192 {
+        if x < 128 {
+            return Found::Got(shape_600());
         }
-        return Found::Got(shape_600());
+        return other_frame(n, x);
     }
-    if 191 < x {
-        return tsvcis_frame(unread, x);
-    }
-    last_octet(x)
+    tsvcis_frame(unread, x)
 }
 
-// A frame at the end of n unread octets, whole, and before none that bars it: comfort noise is last, and a coder frame stands
-// before none of another rate.
-fn admit(n: usize, shape: Shape, behind: u32) -> Found
-    ensures { λ r. ⌜ r ≡ rated behind (fitShape n shape) ⌝ }
+// A frame at the end of n unread octets, whole, with its own bit among those allowed: comfort noise is last, and a coder frame
+// stands before none of another rate.
+fn admit(n: usize, shape: Shape, allowed: u32) -> Found
+    ensures { λ r. ⌜ r ≡ rated allowed (fitShape n shape) ⌝ }
 {
     if n < shape.wire {
         return Found::Bad(refusal::CUT);
     }
-    if behind & (shape.mark ^ RATE_BITS) == 0 {
+    if allowed & shape.own != 0 {
         return Found::Got(shape);
     }
     if shape.wire == NOISE_OCTETS {
@@ -266,22 +273,21 @@ fn admit(n: usize, shape: Shape, behind: u32) -> Found
     Found::Bad(refusal::MIXED_RATES)
 }
 
-// The walk's step: the frame that the unread octets end in, where the frame behind it has the mark `behind` (0 where there is
-// none); or the refusal, in document 01's order.
-pub fn step(unread: &[u8], behind: u32) -> Found
-    ensures { λ r. ⌜ r ≡ foundOf (barred behind (lastFrame (now (unread .entry)) (length (now (unread .entry))))) ⌝ }
+// What may stand where nothing is read yet, in bits.
+pub fn anything() -> u32
+    ensures { λ r. ⌜ r ≡ allowed [] ⌝ }
+{
+    15
+}
+
+// The walk's step: the frame that the unread octets end in, where what was read behind it allows these bits; or the refusal, in
+// document 01's order.
+pub fn step(unread: &[u8], allowed: u32) -> Found
+    ensures { λ r. ⌜ r ≡ foundOf (barred allowed (lastFrame (now (unread .entry)) (length (now (unread .entry))))) ⌝ }
 {
     let found = last_frame(unread);
     match found {
         Found::Bad(number) => Found::Bad(number),
-        Found::Got(shape) => admit(unread.len(), shape, behind),
+        Found::Got(shape) => admit(unread.len(), shape, allowed),
     }
-}
-
-// Whether a last octet x is that of a frame like the one behind it, whose mark is `mark`: of seven octets, without augmentation,
-// and of the same rate.
-pub fn is_like(x: u8, mark: u32) -> bool
-    ensures { λ r. ⌜ r ≡ isLike x mark ⌝ }
-{
-    (x as u32) ^ mark < 64
 }

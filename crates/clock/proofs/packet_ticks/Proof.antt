@@ -12,26 +12,15 @@ enum-known-walked c = search needs
 enum-known-walked-2 : tie.Need-enum-known-walked-2
 enum-known-walked-2 c = search needs
 
-ticks-of-requires : tie.Need-ticks-of-requires
-ticks-of-requires c κs = search needs
-
-cast-t7 : tie.Need-cast-t7
-cast-t7 c = search needs
+cast-t6 : tie.Need-cast-t6
+cast-t6 c = search needs
 
 returns : tie.Need-returns
 returns c = packet-refused _ (λ i. c .before .before .before .before .shared-slice-known .given i .fits) (c .before .before .before .walk .ensures .answer) _ (c .before .walked .given .1)
 
 returns-2 : tie.Need-returns-2
-returns-2 c = packet-whole _ (λ i. c .before .before .before .before .before .shared-slice-known .given i .fits) (c .before .before .before .before .walk .ensures .answer) _ (c .before .before .walked2 .given .1) (c .ticks-of .ensures)
+returns-2 c = packet-whole _ (λ i. c .before .before .before .before .before .shared-slice-known .given i .fits) (c .before .before .before .before .walk .ensures .answer) _ (c .before .before .walked2 .given .1)
 
 pub packet-ticks-spec : {M : Type 1} → statement M
 packet-ticks-spec =
-    tie.close
-    (tie.spec
-    walk-requires
-    enum-known-walked
-    enum-known-walked-2
-    ticks-of-requires
-    cast-t7
-    returns
-    returns-2)
+    tie.close (tie.spec walk-requires enum-known-walked enum-known-walked-2 cast-t6 returns returns-2)

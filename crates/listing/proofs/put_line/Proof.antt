@@ -16,9 +16,6 @@ slice-aggregate-put-row c = search needs
 wide-requires : tie.Need-wide-requires
 wide-requires c κs = search needs
 
-ticks-of-requires : tie.Need-ticks-of-requires
-ticks-of-requires c κs = search needs
-
 cast-put-row : tie.Need-cast-put-row
 cast-put-row c = search needs
 
@@ -44,7 +41,7 @@ same-length : tie.Need-same-length
 same-length c = search needs
 
 returns : tie.Need-returns
-returns c = let z = c .before .before .before .before .before .before .before .before .before .before .before .before .before in line-whole (z .args .out .now) (z .args .at) (z .args .n) (z .args .payload .now) (λ i. c .before .before .before .before .before .before .before .before .before .before .before .shared-slice-known .given i .fits) (c .before .before .before .before .before .before .before .before .before .before .walk .ensures .answer) _ (c .before .before .before .before .before .before .before .before .walked .given .1) (c .before .before .before .before .wide .ensures) (c .before .before .before .ticks-of .ensures) (c .before .before .put-row .ensures)
+returns c = let z = c .before .before .before .before .before .before .before .before .before .before .before .before .before in line-whole (z .args .out .now) (z .args .at) (z .args .n) (z .args .payload .now) (λ i. c .before .before .before .before .before .before .before .before .before .before .before .shared-slice-known .given i .fits) (c .before .before .before .before .before .before .before .before .before .before .walk .ensures .answer) _ (c .before .before .before .before .before .before .before .before .walked .given .1) (c .before .before .before .before .wide .ensures) refl (c .before .before .put-row .ensures)
 
 same-length-2 : tie.Need-same-length-2
 same-length-2 c = search needs
@@ -60,7 +57,6 @@ put-line-spec =
     enum-known-walked
     slice-aggregate-put-row
     wide-requires
-    ticks-of-requires
     cast-put-row
     put-row-requires
     enum-known-walked-2
