@@ -1,7 +1,7 @@
 #!/usr/bin/env bash
-# The benchmark with the functions of the library and of C 0, 16, 32 and 48 octets behind a multiple of 64: a loop's place in
-# the processor's lines of code moves a line of the benchmark by a quarter. In four runs each has each place once. Prints, of C
-# and of Rust, the mean of the four runs and the least and the most.
+# The benchmark with the functions of the library and of C at eight places each: where a function stands in memory moves a line
+# of the benchmark by a quarter. Its place within a page of 4,096 octets is another in each run, and another than that of the
+# functions beside it. Prints, of C and of Rust, the mean of the eight runs and the least and the most.
 # placed.sh LIBRARY REFERENCE OUT COMMAND...: COMMAND runs the benchmark with the libraries that MOULT_LIB and REFERENCE_LIB name.
 set -euo pipefail
 
@@ -20,11 +20,12 @@ whole() {
     ld -r -o "$out/$1.o" "$out"/objects/*.o
 }
 
-# moved NAME OCTETS: a section of a function's name before its own moves that function, and the linker keeps both.
+# moved NAME RUN STEP: a section of a function's name before its own moves that function, and the linker keeps both.
 moved() {
-    objdump -h "$out/$1.o" | awk -v octets="$2" '
+    objdump -h "$out/$1.o" | awk -v run="$2" -v step="$3" '
         $2 ~ /^\.text\./ {
-            printf ".section \"%s\",\"ax\",@progbits\n.p2align 6\n", $2
+            printf ".section \"%s\",\"ax\",@progbits\n.p2align 12\n", $2
+            octets = 16 * ((run * step + functions++ * 101) % 256)
             if (octets) printf ".skip %d\n", octets
         }
         END { print ".section .note.GNU-stack,\"\",@progbits" }' >"$out/before.s"
@@ -36,10 +37,11 @@ moved() {
 
 whole library "$library"
 whole reference "$reference"
-for places in 0:32 16:0 32:48 48:16; do
-    moved library "${places%:*}"
-    moved reference "${places#*:}"
-    MOULT_LIB=$out/liblibrary.a REFERENCE_LIB=$out/libreference.a "$@" >"$out/run.${places%:*}"
+rm -f "$out"/run.*
+for run in 0 1 2 3 4 5 6 7; do
+    moved library "$run" 37
+    moved reference "$run" 59
+    MOULT_LIB=$out/liblibrary.a REFERENCE_LIB=$out/libreference.a "$@" >"$out/run.$run"
 done
 
 # The last two columns are ratios; the name and the mix stand before the three times.
@@ -54,9 +56,9 @@ awk '
         if ($(NF - 1) > most[line]) most[line] = $(NF - 1)
     }
     END {
-        printf "%-38s%8s%16s%8s\n", "mean of four places", "of C", "least to most", "of Rust"
+        printf "%-38s%8s%16s%8s\n", "mean of eight places", "of C", "least to most", "of Rust"
         for (i = 1; i <= lines; i++) {
             line = order[i]
             printf "%-38s%8.2f%16s%8.2f\n", line, exp(c[line] / runs[line]), sprintf("%.2f to %.2f", least[line], most[line]), exp(rust[line] / runs[line])
         }
-    }' "$out"/run.0 "$out"/run.16 "$out"/run.32 "$out"/run.48
+    }' "$out"/run.*

@@ -70,7 +70,7 @@ bench: $(MOULT_LIB) $(REFERENCE_LIB) $(HOST_OUT)/c_list
 	$(BENCH_ENV) cargo build --offline --release --quiet --manifest-path bench/rust/Cargo.toml
 	$(CARGO_OUT)/release/bench target/bin/list $(HOST_OUT)/c_list $(CARGO_OUT)/release/list $(HOST_OUT)/listing
 
-# The same at four places of the library's functions and of C's.
+# The same at eight places of the library's functions and of C's.
 bench-placed: $(MOULT_LIB) $(HOST_OUT)/libreference.a $(HOST_OUT)/c_list
 	bench/placed.sh $(MOULT_LIB) $(HOST_OUT)/libreference.a $(HOST_OUT)/placed $(MAKE) --no-print-directory --silent bench
 
