@@ -11,7 +11,7 @@ SECONDS ?= 60
 
 # rt is to run once at a time.
 .NOTPARALLEL:
-.PHONY: host host-test host-c-test host-rust-test example bench bench-placed fuzz
+.PHONY: host host-test host-c-test host-rust-test example bench fuzz
 
 host:
 	rt staticlib host
@@ -62,17 +62,20 @@ $(HOST_OUT)/libreference.a: $(REFERENCE_O)
 $(HOST_OUT)/c_list: bench/c/list.c $(HOST_OUT)/libreference.a
 	gcc $(REFERENCE_FLAGS) -D_GNU_SOURCE $^ -o $@
 
-# REFERENCE_LIB names another build of the C implementation.
-REFERENCE_LIB ?= $(HOST_OUT)/libreference.a
-BENCH_ENV = $(CARGO_ENV) MOULT_REFERENCE=$(abspath $(REFERENCE_LIB))
+$(HOST_OUT)/safe_rust.o: $(wildcard bench/rust/src/*.rs) | $(HOST_OUT)
+	rustc --edition 2024 --crate-name safe --crate-type lib --emit obj=$@ -C opt-level=3 -C codegen-units=1 -C panic=abort bench/rust/src/lib.rs
 
-bench: $(MOULT_LIB) $(REFERENCE_LIB) $(HOST_OUT)/c_list
-	$(BENCH_ENV) cargo build --offline --release --quiet --manifest-path bench/rust/Cargo.toml
-	$(CARGO_OUT)/release/bench target/bin/list $(HOST_OUT)/c_list $(CARGO_OUT)/release/list $(HOST_OUT)/listing
+$(HOST_OUT)/libplaces.a: bench/places.sh $(MOULT_LIB) $(HOST_OUT)/libreference.a $(HOST_OUT)/safe_rust.o FORCE
+	bench/places.sh $@ moult=$(MOULT_LIB) c=$(HOST_OUT)/libreference.a rust=$(HOST_OUT)/safe_rust.o
 
-# The same at eight places of the library's functions and of C's.
-bench-placed: $(MOULT_LIB) $(HOST_OUT)/libreference.a $(HOST_OUT)/c_list
-	bench/placed.sh $(MOULT_LIB) $(HOST_OUT)/libreference.a $(HOST_OUT)/placed $(MAKE) --no-print-directory --silent bench
+# ONLY=WORD measures the lines that have the word alone.
+BENCH_CARGO := MOULT_PLACES=$(abspath $(HOST_OUT)/libplaces.a) CARGO_TARGET_DIR=$(CARGO_OUT) \
+	cargo build --offline --quiet --manifest-path bench/rust/Cargo.toml
+
+bench: $(HOST_OUT)/libplaces.a $(HOST_OUT)/c_list
+	$(BENCH_CARGO) --release --bin list
+	$(BENCH_CARGO) --profile measured --bin bench
+	$(CARGO_OUT)/measured/bench target/bin/list $(HOST_OUT)/c_list $(CARGO_OUT)/release/list $(HOST_OUT)/listing "$(ONLY)"
 
 # The fuzzer: the library beside a second C reading, by libFuzzer. Not part of the gate.
 CLANG ?= clang

@@ -1,10 +1,15 @@
 //! A safe Rust implementation of the library's functions, to measure against: a survey from the
 //! end, then a second pass that fills; nothing is written before all checks have passed.
-#![forbid(unsafe_code)]
+#![deny(unsafe_code)]
 
+pub mod abi;
+#[forbid(unsafe_code)]
 pub mod fields;
+#[forbid(unsafe_code)]
 pub mod payload;
+#[forbid(unsafe_code)]
 pub mod settings;
+#[forbid(unsafe_code)]
 pub mod writer;
 
 pub const MAX_OCTETS: usize = 1400;

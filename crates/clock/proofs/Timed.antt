@@ -3,15 +3,16 @@ use mathlib.Core.Path.{_≡_, refl, sym, ap, _∙_}
 use mathlib.Core.List.{List}
 use Prim.Native.Nat.{ℕ, _+_, _*_, _/_, _≤_, _<_}
 use native.Mathlib.Omega.{arith}
+use native.Mathlib.Decide.{ℕ-discrete}
 use borrow.Author.Tests.{lt-ltb, le-ltb, eq-eqb, ne-eqb}
 use Rattle.refusal.specs.declared.Refusal.{Refusal}
-use Rattle.wire.specs.Frame.{ticksOfRate, Octets, ticksOf}
+use Rattle.wire.specs.Frame.{ticksOfRate, Octets}
 use Rattle.wire.specs.Walk.{readOf}
-use Rattle.payload.specs.Reading.{walkedOf}
+use Rattle.payload.specs.Reading.{walkedOf, lasts}
 use Rattle.payload.specs.declared.Extent.{Extent}
 use Rattle.payload.specs.declared.Walked.{Walked}
 use Rattle.payload.specs.declared.Walked.the-variants as walked
-use Rattle.payload.proofs.Seen.{went, stopped, reads-it, none-gives}
+use Rattle.payload.proofs.Seen.{went, went-lasts, stopped, reads-it, none-gives}
 use Rattle.clock.specs.Time.{packetTicks, packetReport, PacketTime, ptimeOf, noPtime}
 use Rattle.clock.specs.declared.PacketTicks.the-variants as packet
 use Rattle.clock.specs.declared.PacketMillis.the-variants as settings
@@ -23,13 +24,22 @@ module _ (r n : ℕ) where
   unfolding ptimeOf
   ptime-rate e = simp (eq-eqb (ticksOfRate r) 0 e)
 
-  pub ptime-few : (ticksOfRate r ≡ 0 → ⊥) → n < 1 → noPtime ≡ ptimeOf r n
+  -- for another number of frames, known rate or not
+  pub ptime-few : n < 1 → noPtime ≡ ptimeOf r n
   unfolding ptimeOf
-  ptime-few e h = simp (ne-eqb (ticksOfRate r) 0 e, lt-ltb n 1 h)
+  ptime-few h = go (ℕ-discrete (ticksOfRate r) 0)
+    where
+      go : Dec (ticksOfRate r ≡ 0) → noPtime ≡ ptimeOf r n
+      go (yes e) = ptime-rate e
+      go (no e) = simp (ne-eqb (ticksOfRate r) 0 e, lt-ltb n 1 h)
 
-  pub ptime-many : (ticksOfRate r ≡ 0 → ⊥) → 1 ≤ n → 200 < n → noPtime ≡ ptimeOf r n
+  pub ptime-many : 1 ≤ n → 200 < n → noPtime ≡ ptimeOf r n
   unfolding ptimeOf
-  ptime-many e h l = simp (ne-eqb (ticksOfRate r) 0 e, le-ltb n 1 h, lt-ltb 200 n l)
+  ptime-many h l = go (ℕ-discrete (ticksOfRate r) 0)
+    where
+      go : Dec (ticksOfRate r ≡ 0) → noPtime ≡ ptimeOf r n
+      go (yes e) = ptime-rate e
+      go (no e) = simp (ne-eqb (ticksOfRate r) 0 e, le-ltb n 1 h, lt-ltb 200 n l)
 
   pub ptime-right : (ticksOfRate r ≡ 0 → ⊥) → 1 ≤ n → n ≤ 200 → {t : ℕ} → t ≡ ticksOfRate r → settings.Lasts (record { 0 = (n * t + 7) / 8 }) ≡ ptimeOf r n
   unfolding ptimeOf
@@ -46,13 +56,11 @@ seven-frames = refl
 -- ---- a packet's time
 
 module _ (p : List ℕ) (o : Octets p) {s : Walked} (is : s ≡ walkedOf (readOf p)) where
-  pub packet-whole : (x : Extent) → s ≡ walked.Whole x → PacketTime p (packet.Lasts (record { 0 = x .ticks }))
-  packet-whole x e =
-      let both = went p o is x e in
-      let a = both .0 in
-      let d : x .ticks ≡ ticksOf (a .fs) = ap (λ (y : Extent). y .ticks) (both .1) in
-      let same : packet.Lasts (record { 0 = x .ticks }) ≡ packetTicks (readOf p) =
-      ap (λ (n : ℕ). packet.Lasts (record { 0 = n })) d ∙ ap packetTicks (sym (a .reads)) in
+  pub packet-whole : (x : Extent) → s ≡ walked.Whole x → {t : ℕ} → t ≡ lasts x → PacketTime p (packet.Lasts (record { 0 = t }))
+  packet-whole x e {t} q =
+      let a = went p o is x e .0 in
+      let same : packet.Lasts (record { 0 = t }) ≡ packetTicks (readOf p) =
+      ap (λ (n : ℕ). packet.Lasts (record { 0 = n })) (q ∙ went-lasts p o is x e) ∙ ap packetTicks (sym (a .reads)) in
       record {
         answer = same;
         ticks = λ fs l g. ap packetReport (same ∙ ap packetTicks (reads-it p fs l g));

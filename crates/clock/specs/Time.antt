@@ -1,7 +1,7 @@
 -- Document 01, "Time on the clock and time in settings".
 use mathlib.Core.Path.{_≡_}
 use mathlib.Core.Bool.{cond}
-use mathlib.Core.List.{List, []}
+use mathlib.Core.List.{List}
 use Prim.Native.Nat.{ℕ, _+_, _*_, _/_}
 use lib.Dec.{eqb, ltb}
 use Rattle.refusal.specs.Numbers.{unknownKind}

@@ -28,8 +28,11 @@ pub fn packet_ticks(payload: &[u8]) -> PacketTicks
 {
     let walked = payload::walk(payload);
     match walked {
+        Walked::Whole(extent) => {
+            let each = wire::ticks_of_rate(wire::rate_of(extent.before));
+            PacketTicks::Lasts(Ticks((extent.coders * each) as usize))
+        }
         Walked::Refused(refusal) => PacketTicks::Refused(refusal),
-        Walked::Whole(extent) => PacketTicks::Lasts(Ticks(extent.ticks as usize)),
     }
 }
 
@@ -46,15 +49,13 @@ fn unknown() -> PacketMillis
 pub fn ptime(rate: u32, frames: usize) -> PacketMillis
     ensures { λ r. ⌜ r ≡ ptimeOf rate frames ⌝ }
 {
-    let ticks = wire::ticks_of_rate(rate);
-    if ticks == 0 {
-        return unknown();
+    if 1 <= frames {
+        if frames <= 200 {
+            let ticks = wire::ticks_of_rate(rate);
+            if 0 < ticks {
+                return PacketMillis::Lasts(Millis((frames * ticks as usize + 7) / 8));
+            }
+        }
     }
-    if frames < 1 {
-        return unknown();
-    }
-    if 200 < frames {
-        return unknown();
-    }
-    PacketMillis::Lasts(Millis((frames * ticks + 7) / 8))
+    unknown()
 }

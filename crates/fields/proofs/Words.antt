@@ -71,12 +71,13 @@ word-octets (suc n) v =
     let e : 8 * suc n ≡ 8 + 8 * n = omega arith in
     rw (length-octets-of n v, word-octets n v, e) (sym (mod-pow-add v 8 (8 * n)))
 
--- one octet of a word
-pub octets-at : (n v i left : ℕ) → i < n → left + 8 * suc i ≡ 8 * n → getD (octets n v) i 0 ≡ v / 2 ^ left % 256
+-- one octet more of a word, before those behind it
+pub octets-more : (n k v from : ℕ) → k ≡ suc n → from ≡ 8 * n → v / 2 ^ from % 256 ∷ octets n v ≡ octets k v
 unfolding octets
-octets-at zero v i left h e = absurd (omega arith)
-octets-at (suc n) v zero left h e = let q : 8 * n ≡ left = omega arith in ap (λ (k : ℕ). v / 2 ^ k % 256) q
-octets-at (suc n) v (suc i) left h e = octets-at n v i left (omega arith) (omega arith)
+octets-more n k v from e f = rw (e, f)
+
+pub octets-all : (i v : ℕ) → i ≡ 0 → octets (7 - i) v ≡ octets 7 v
+octets-all i v e = ap (λ (k : ℕ). octets (7 - k) v) e
 
 -- the word of a body, from its first four octets and its last three
 pub word-seven : (xs : List ℕ) → length xs ≡ 7 → firstFour xs * 16777216 + lastThree xs ≡ wordOf xs

@@ -285,17 +285,17 @@ fn gather(mode: u8, fields: &[u16]) -> Gathered
     }
 }
 
-// Puts the seven octets of a word, the highest first.
+// Puts the seven octets of a word, the highest first. The last is put first: so the compiler stores the lowest four at once.
 fn put_octets(word: u64, out: &mut [u8])
     requires { ⌜ 7 ≤ length (now out) ⌝ }
     ensures { λ _. ⌜ now (out .exit) ≡ octets 7 word ++ drop 7 (now (out .entry)) ⌝ }
 {
-    let mut left: u64 = 56;
-    let mut i = 0;
-    while i < BODY_OCTETS {
-        left -= 8;
-        out[i] = ((word >> left) % 256) as u8;
-        i += 1;
+    let mut from: u64 = 0;
+    let mut i = BODY_OCTETS;
+    while 0 < i {
+        i -= 1;
+        out[i] = ((word >> from) % 256) as u8;
+        from += 8;
     }
 }
 

@@ -8,11 +8,11 @@ use borrow.Author.Tests.{lt-ltb, le-ltb}
 use Rattle.refusal.specs.declared.Refusal.{Refusal}
 use Rattle.wire.specs.Frame.{Octets, ticksOf}
 use Rattle.wire.specs.Walk.{Walk, at, refused, readOf}
-use Rattle.payload.specs.Reading.{walkedOf}
+use Rattle.payload.specs.Reading.{walkedOf, lasts}
 use Rattle.payload.specs.declared.Extent.{Extent}
 use Rattle.payload.specs.declared.Walked.{Walked}
 use Rattle.payload.specs.declared.Walked.the-variants.{Whole, Refused}
-use Rattle.payload.proofs.Seen.{went, stopped}
+use Rattle.payload.proofs.Seen.{went, went-lasts, stopped}
 use Rattle.listing.specs.Line.{decimal, okWord, refusedWord, row, lineOf, payloadLine, closing}
 use Rattle.listing.specs.Listing.{following}
 use Rattle.listing.specs.Carried.{Puts}
@@ -69,11 +69,11 @@ module _ (o w : List ℕ) (n : ℕ) (room : 25 ≤ length o) (short : length w �
 
 -- the line of a payload
 module _ (o : List ℕ) (a n : ℕ) (p : List ℕ) (os : Octets p) {x y : ℕ} {c : Walked} (q : c ≡ walkedOf (readOf p)) {e : List ℕ} {r : ℕ} where
-  pub line-whole : (t : Extent) → c ≡ Whole t → x ≡ t .frames → y ≡ t .ticks → Puts o a (row n okWord x y) e r → Puts o a (payloadLine n p) e r
+  pub line-whole : (t : Extent) → c ≡ Whole t → x ≡ t .frames → y ≡ lasts t → Puts o a (row n okWord x y) e r → Puts o a (payloadLine n p) e r
   line-whole t w ex ey s =
       let g = went p os q t w in
       let ef = ex ∙ ap (λ (z : Extent). z .frames) (g .1) in
-      let et = ey ∙ ap (λ (z : Extent). z .ticks) (g .1) in
+      let et = ey ∙ went-lasts p os q t w in
       puts-same o a (rw (ef, et) (ap (lineOf n) (sym (g .0 .reads)))) s
 
   pub line-refused : (f : Refusal) → c ≡ Refused f → x ≡ f .number → y ≡ f .place → Puts o a (row n refusedWord x y) e r → Puts o a (payloadLine n p) e r

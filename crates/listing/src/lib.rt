@@ -158,14 +158,17 @@ fn put_line(out: &mut [u8], at: usize, n: u64, payload: &[u8]) -> usize
 {
     let walked = payload::walk(payload);
     match walked {
-        Walked::Whole(extent) => put_row(
-            out,
-            at,
-            n,
-            b" ok ",
-            wide(extent.frames),
-            extent.ticks as u64,
-        ),
+        Walked::Whole(extent) => {
+            let each = wire::ticks_of_rate(wire::rate_of(extent.before));
+            put_row(
+                out,
+                at,
+                n,
+                b" ok ",
+                wide(extent.frames),
+                (extent.coders * each) as u64,
+            )
+        }
         Walked::Refused(refusal) => put_row(
             out,
             at,

@@ -5,24 +5,24 @@ use mathlib.Core.List.{List, [], _∷_}
 use Prim.Native.Nat.{ℕ, zero, suc, _+_, _-_, _*_, _≤_, _<_}
 use native.Mathlib.Omega.{arith}
 use lib.Bits.{bitAnd}
-use lib.Dec.{eqb}
+use lib.Dec.{eqb, ltb}
 use lib.ListN.{length, take, length-append, length-set}
 use borrow.Author.Tests.{lt-ltb, le-ltb}
-use Rattle.wire.specs.Frame.{Frame, Kind, bps2400, bps1200, bps600, noise, tsvcis, LegalTc, Octets, number, size, rate, ticks, wireLength, bodiesOf, ticksOf}
-use Rattle.wire.specs.Walk.{Ending, bad, got, lastFrame, own, before, turn, next, frameAt, seen, run, readOf, at, shapeOf, foundOf}
+use Rattle.wire.specs.Frame.{Frame, Kind, bps2400, bps1200, bps600, noise, tsvcis, LegalTc, Octets, number, size, rate, wireLength, bodiesOf}
+use Rattle.wire.specs.Walk.{Ending, bad, got, lastFrame, own, before, turn, next, frameAt, run, readOf, at, shapeOf, foundOf}
 use Rattle.wire.specs.Step.{allowed, barred, barredAs}
 use Rattle.wire.specs.declared.Shape.{Shape}
 use Rattle.wire.specs.declared.Found.{Found}
 use Rattle.wire.specs.declared.Found.the-variants.{Bad, Got}
 use Rattle.wire.proofs.Tables.{size-pos, tc-most}
-use Rattle.wire.proofs.Rates.{kind-ticks-most}
 use Rattle.wire.proofs.Barred.{beside-barred}
 use Rattle.wire.proofs.Complete.{next-at, stay}
 use Rattle.wire.proofs.Ended.{Whole, Wholes, last-says}
 use Rattle.wire.proofs.Sound.{run-refused, length-base}
 use Rattle.wire.proofs.Prefix.{last-take}
 use Rattle.wire.proofs.Shapes.{Shaped, shaped, bad-is}
-use Rattle.payload.specs.Reading.{walkedOf, refuse}
+use Rattle.payload.proofs.Lasts.{one-most}
+use Rattle.payload.specs.Reading.{walkedOf, refuse, codersOf}
 use Rattle.payload.specs.declared.Walked.the-variants as walked
 
 -- a turn's frame is whole
@@ -43,7 +43,6 @@ pub record Sized (u : ℕ) (x : Shape) : Type 0 where
   pub based : 1 ≤ x .size
   pub less : x .tc < 256
   pub base : x .size ≤ x .body
-  pub lasts : x .ticks ≤ 720
   pub plain : x .kind ≡ 1 → x ≡ shapeOf bps2400 0
   pub low : x .kind ≡ 3 → x ≡ shapeOf bps600 0
 
@@ -69,23 +68,20 @@ sized p u k t w = record {
   based = omega (arith, size-pos k);
   less = tc-most k t (w .tc);
   base = omega arith;
-  lasts = kind-ticks-most k;
   plain = plain-shape k t (w .tc);
   low = low-shape k t (w .tc);
 }
 
--- u octets are unread; n frames behind them are read, which have o octets of bodies and the rate s, last d ticks and allow the
--- bits b
-pub record Held (p : List ℕ) (u n o s d b : ℕ) : Type 0 where
+-- u octets are unread; n frames behind them are read, m of them coder frames, which have o octets of bodies and allow the bits b
+pub record Held (p : List ℕ) (u n o m b : ℕ) : Type 0 where
   pub later : List Frame
   pub fuel : ℕ
   pub enough : u ≤ fuel
   pub frames : n ≡ length later
   pub octets : o ≡ length (bodiesOf later)
   pub inside : o + u ≤ length p
-  pub rated : s ≡ seen later
-  pub lasts : d ≡ ticksOf later
-  pub most : d ≤ 720 * n
+  pub coders : m ≡ codersOf later
+  pub most : m ≤ n
   pub bits : b ≡ allowed later
   pub few : n + u ≤ length p
   pub short : length p ≤ 1400
@@ -95,7 +91,7 @@ pub too-long : (p : List ℕ) → 1400 < length p → walked.Refused (refuse 1 1
 unfolding readOf
 too-long p h = simp (lt-ltb 1400 (length p) h)
 
-pub held-start : (p : List ℕ) → length p ≤ 1400 → {b : ℕ} → b ≡ allowed [] → Held p (length p) 0 0 0 0 b
+pub held-start : (p : List ℕ) → length p ≤ 1400 → {b : ℕ} → b ≡ allowed [] → Held p (length p) 0 0 0 b
 unfolding readOf
 held-start p h e = record {
   later = [];
@@ -104,8 +100,7 @@ held-start p h e = record {
   frames = refl;
   octets = refl;
   inside = omega arith;
-  rated = refl;
-  lasts = refl;
+  coders = refl;
   most = omega arith;
   bits = e;
   few = omega arith;
@@ -113,12 +108,12 @@ held-start p h e = record {
   same = simp (le-ltb 1400 (length p) h);
 }
 
-pub held-end : (p : List ℕ) (u n o s d b : ℕ) → Held p u n o s d b → u ≤ 0 → walked.Whole (record { frames = n; octets = o; rate = s; ticks = d }) ≡ walkedOf (readOf p)
-held-end p u n o s d b h z =
+pub held-end : (p : List ℕ) (u n o m b : ℕ) → Held p u n o m b → u ≤ 0 → walked.Whole (record { frames = n; octets = o; before = b; coders = m }) ≡ walkedOf (readOf p)
+held-end p u n o m b h z =
     let e : u ≡ 0 = omega arith in
-    rw (← (h .same), e, stay (h .fuel) p (h .later), h .frames, h .octets, h .rated, h .lasts)
+    rw (← (h .same), e, stay (h .fuel) p (h .later), h .frames, h .octets, h .bits, h .coders)
 
-module _ (p : List ℕ) (u n o s d b : ℕ) (h : Held p u n o s d b) (pos : 1 ≤ u) where
+module _ (p : List ℕ) (u n o m b : ℕ) (h : Held p u n o m b) (pos : 1 ≤ u) where
   here : Ending
   here = barred b (lastFrame p u)
 
@@ -151,13 +146,14 @@ module _ (p : List ℕ) (u n o s d b : ℕ) (h : Held p u n o s d b) (pos : 1 �
     pub held-sized : Sized u x
     held-sized = rw (sh .is) (sized p u (sh .kind) (sh .tc) whole)
 
-    next-held : (k : Kind) (t : ℕ) → here ≡ got k t → Whole p u k t → Held p (u - wireLength k t) (n + 1) (o + (size k + t)) (rate k) (d + ticks k) (before k)
-    next-held k t i w = go (h .fuel) (h .enough) (h .same)
+    next-held : (k : Kind) (t : ℕ) → here ≡ got k t → Whole p u k t → (q : ℕ) → q ≡ m + cond (ltb 0 (rate k)) 1 0
+        → Held p (u - wireLength k t) (n + 1) (o + (size k + t)) q (before k)
+    next-held k t i w q c = go (h .fuel) (h .enough) (h .same)
       where
         body : length (frameAt p (u - wireLength k t) k t .body) ≡ size k + t
         body = simp length-set (length-base p u k t os (omega (arith, h .few)) w)
 
-        go : (f : ℕ) → u ≤ f → run f p (at u (h .later)) ≡ readOf p → Held p (u - wireLength k t) (n + 1) (o + (size k + t)) (rate k) (d + ticks k) (before k)
+        go : (f : ℕ) → u ≤ f → run f p (at u (h .later)) ≡ readOf p → Held p (u - wireLength k t) (n + 1) (o + (size k + t)) q (before k)
         go zero l r = absurd (omega arith)
         go (suc f) l r = record {
           later = frameAt p (u - wireLength k t) k t ∷ h .later;
@@ -166,14 +162,19 @@ module _ (p : List ℕ) (u n o s d b : ℕ) (h : Held p u n o s d b) (pos : 1 �
           frames = omega (arith, h .frames);
           octets = simp length-append (omega (arith, h .octets, body));
           inside = omega (arith, h .inside, w .room);
-          rated = refl;
-          lasts = omega (arith, h .lasts);
-          most = omega (arith, h .most, kind-ticks-most k);
+          coders = omega (arith, c, h .coders);
+          most = omega (arith, c, h .most, one-most k);
           bits = refl;
           few = omega (arith, h .few, size-pos k, w .room);
           short = h .short;
           same = ap (run f p) (sym (turns (got k t) i)) ∙ r;
         }
 
-    pub held-got : Held p (u - x .wire) (n + 1) (o + x .body) (x .rate) (d + x .ticks) (x .before)
-    held-got = rw (sh .is) (next-held (sh .kind) (sh .tc) (sh .ends) whole)
+    held-got : (q : ℕ) → q ≡ m + cond (ltb 0 (x .rate)) 1 0 → Held p (u - x .wire) (n + 1) (o + x .body) q (x .before)
+    held-got q c = rw (sh .is) (next-held (sh .kind) (sh .tc) (sh .ends) whole q (c ∙ ap (λ (y : Shape). m + cond (ltb 0 (y .rate)) 1 0) (sh .is)))
+
+    pub held-coder : 0 < x .rate → Held p (u - x .wire) (n + 1) (o + x .body) (m + 1) (x .before)
+    held-coder l = held-got (m + 1) (simp (lt-ltb 0 (x .rate) l))
+
+    pub held-noise : x .rate ≤ 0 → Held p (u - x .wire) (n + 1) (o + x .body) m (x .before)
+    held-noise l = held-got m (simp (le-ltb 0 (x .rate) l) (omega arith))

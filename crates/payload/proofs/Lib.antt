@@ -1,3 +1,4 @@
+pub mod Lasts
 pub mod Held
 pub mod Seen
 pub mod Onward

@@ -1,15 +1,16 @@
 -- What the walk's answer says of the payload, by cases: for all who ask it.
 use mathlib.Core.Path.{_≡_, refl, sym, ap, _∙_, subst}
 use mathlib.Core.List.{List}
-use Prim.Native.Nat.{ℕ, zero, suc}
+use Prim.Native.Nat.{ℕ, zero, suc, _≤_}
 use native.Mathlib.Omega.{arith}
 use Rattle.refusal.specs.declared.Refusal.{Refusal}
-use Rattle.wire.specs.Frame.{Frame, Octets, Legal, octetsOf}
+use Rattle.wire.specs.Frame.{Frame, Octets, Legal, octetsOf, ticksOf}
 use Rattle.wire.specs.Walk.{Walk, at, refused, readOf}
 use Rattle.wire.proofs.Complete.{complete}
 use Rattle.wire.proofs.Sound.{sound, Ended, read-ends}
-use Rattle.wire.proofs.Ranges.{InRange, in-range}
-use Rattle.payload.specs.Reading.{refuse, extent, walkedOf, walkReport, walkNumbers, Walks}
+use Rattle.wire.proofs.Ranges.{InRange, in-range, frames-most}
+use Rattle.payload.proofs.Lasts.{rate-seen, lasts-sum, coders-most}
+use Rattle.payload.specs.Reading.{refuse, extent, lasts, walkedOf, walkReport, walkNumbers, Walks}
 use Rattle.payload.specs.declared.Extent.{Extent}
 use Rattle.payload.specs.declared.Walked.{Walked}
 use Rattle.payload.specs.declared.Walked.the-variants as walked
@@ -61,6 +62,15 @@ module _ (p : List ℕ) (o : Octets p) {s : Walked} (is : s ≡ walkedOf (readOf
       go (over a) q = let f : extent (a .fs) ≡ x = cc in (a, sym f)
       go (not y d) q = absurd (let z : _≡_ {A = ℕ} 0 1 = cc in omega arith)
 
+  -- what it lasts, and that this is little
+  pub went-lasts : (x : Extent) (e : s ≡ walked.Whole x) → lasts x ≡ ticksOf (went x e .0 .fs)
+  went-lasts x e = let w = went x e in ap lasts (w .1) ∙ lasts-sum (w .0 .fs) (w .0 .legal)
+
+  pub went-few : (x : Extent) → s ≡ walked.Whole x → x .coders ≤ 200
+  went-few x e =
+      let w = went x e in
+      omega (arith, ap (λ (y : Extent). y .coders) (w .1), coders-most (w .0 .fs), frames-most (w .0 .fs) (w .0 .legal))
+
   pub stopped : (x : Refusal) → s ≡ walked.Refused x → Denied p x
   stopped x e = go (view p o) (sym is ∙ e)
     where
@@ -70,9 +80,9 @@ module _ (p : List ℕ) (o : Octets p) {s : Walked} (is : s ≡ walkedOf (readOf
 
 -- ---- what it promises, from its answer
 
-pub walks : (p : List ℕ) {r : Walked} → r ≡ walkedOf (readOf p) → Walks p r
-walks p e = record { answer = e; numbers = ap walkReport e ∙ go (readOf p) }
+pub walks : (p : List ℕ) → Octets p → {r : Walked} → r ≡ walkedOf (readOf p) → Walks p r
+walks p o e = record { answer = e; numbers = ap walkReport e ∙ go (view p o) }
   where
-    go : (w : Walk) → walkReport (walkedOf w) ≡ walkNumbers w
-    go (at u fs) = refl
-    go (refused n place later) = refl
+    go : {w : Walk} → View p w → walkReport (walkedOf w) ≡ walkNumbers w
+    go (over a) = rw (lasts-sum (a .fs) (a .legal), rate-seen (a .fs))
+    go (not x d) = refl

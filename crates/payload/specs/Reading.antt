@@ -1,14 +1,15 @@
 -- What reading a payload answers, and what the lent rows and bodies hold afterwards: document 01, "Reader".
 use mathlib.Core.Path.{_≡_}
 use mathlib.Core.Bool.{cond}
-use mathlib.Core.List.{List, _++_}
-use Prim.Native.Nat.{ℕ, _*_, _/_}
+use mathlib.Core.List.{List, [], _∷_, _++_}
+use Prim.Native.Nat.{ℕ, _+_, _*_, _/_}
 use lib.Dec.{ltb}
 use lib.ListN.{length, drop}
 use Rattle.refusal.specs.Numbers.{shortList, shortBuffer}
 use Rattle.refusal.specs.declared.Refusal.{Refusal}
-use Rattle.wire.specs.Frame.{Frame, rowsOf, bodiesOf, ticksOf}
-use Rattle.wire.specs.Walk.{Walk, at, refused, seen, readOf}
+use Rattle.wire.specs.Frame.{Frame, rate, rowsOf, bodiesOf, ticksOf, ticksOfRate}
+use Rattle.wire.specs.Walk.{Walk, at, refused, seen, readOf, rateOf}
+use Rattle.wire.specs.Step.{allowed}
 use Rattle.payload.specs.declared.Extent.{Extent}
 use Rattle.payload.specs.declared.Walked.{Walked}
 use Rattle.payload.specs.declared.Walked.the-variants as walked
@@ -19,9 +20,18 @@ use Rattle.payload.specs.declared.Reading.the-variants as reading
 abbrev pub refuse : ℕ → ℕ → Refusal
 refuse n place = record { number = n; place = place }
 
--- what the walk comes to: frames, body octets, rate, ticks
+-- the coder frames of a sequence: all that have a rate
+abbrev pub codersOf : List Frame → ℕ
+codersOf [] = 0
+codersOf (f ∷ fs) = cond (ltb 0 (rate (f .kind))) 1 0 + codersOf fs
+
+-- what the walk comes to: frames, body octets, the bits of what may stand before the frames, and the coder frames among them
 abbrev pub extent : List Frame → Extent
-extent fs = record { frames = length fs; octets = length (bodiesOf fs); rate = seen fs; ticks = ticksOf fs }
+extent fs = record { frames = length fs; octets = length (bodiesOf fs); before = allowed fs; coders = codersOf fs }
+
+-- what a packet of this extent lasts, in ticks: its coder frames, of one rate, each as long as that rate's
+abbrev pub lasts : Extent → ℕ
+lasts x = x .coders * ticksOfRate (rateOf (x .before))
 
 -- what a walk comes to, in numbers
 abbrev pub walkedOf : Walk → Walked
@@ -79,12 +89,12 @@ pub record WalkReport : Type 0 where
   pub rate : ℕ
   pub ticks : ℕ
 
--- the numbers of each case of the walk's answer
+-- the numbers of each case of the walk's answer: rate and ticks as they follow from an extent
 abbrev pub walkReport : Walked → WalkReport
-walkReport (walked.Whole x) = record { number = 0; place = 0; frames = x .frames; octets = x .octets; rate = x .rate; ticks = x .ticks }
+walkReport (walked.Whole x) = record { number = 0; place = 0; frames = x .frames; octets = x .octets; rate = rateOf (x .before); ticks = lasts x }
 walkReport (walked.Refused x) = record { number = x .number; place = x .place; frames = 0; octets = 0; rate = 0; ticks = 0 }
 
--- the numbers of a walk
+-- the numbers of a walk: the rate of its frames, and the sum of their ticks
 abbrev pub walkNumbers : Walk → WalkReport
 walkNumbers (at u fs) = record { number = 0; place = 0; frames = length fs; octets = length (bodiesOf fs); rate = seen fs; ticks = ticksOf fs }
 walkNumbers (refused n place later) = record { number = n; place = place; frames = 0; octets = 0; rate = 0; ticks = 0 }

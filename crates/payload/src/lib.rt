@@ -19,12 +19,13 @@ pub use writer::write;
 
 const MOST_OCTETS: usize = 1400;
 
-// What the walk over a payload comes to: frames, octets of their bodies, their rate (0 where there is no coder frame), ticks.
+// What the walk over a payload comes to: frames, octets of their bodies, the bits of what may stand before them, from which
+// `wire::rate_of` has their rate, and the coder frames among them.
 pub struct Extent {
     pub frames: usize,
     pub octets: usize,
-    pub rate: u32,
-    pub ticks: u32,
+    pub before: u32,
+    pub coders: u32,
 }
 
 // An empty payload is whole and holds no frames; a refused one is the other case.
@@ -47,8 +48,7 @@ fn walk_back(payload: &[u8]) -> Walked
     let mut unread = payload.len();
     let mut frames: usize = 0;
     let mut octets: usize = 0;
-    let mut rate: u32 = 0;
-    let mut ticks: u32 = 0;
+    let mut coders: u32 = 0;
     let mut allowed = wire::anything();
     while 0 < unread {
         let found = wire::step(&payload[..unread], allowed);
@@ -63,8 +63,9 @@ fn walk_back(payload: &[u8]) -> Walked
                 unread -= shape.wire;
                 frames += 1;
                 octets += shape.body;
-                rate = shape.rate;
-                ticks += shape.ticks;
+                if 0 < shape.rate {
+                    coders += 1;
+                }
                 allowed = shape.before;
             }
         }
@@ -72,8 +73,8 @@ fn walk_back(payload: &[u8]) -> Walked
     Walked::Whole(Extent {
         frames,
         octets,
-        rate,
-        ticks,
+        before: allowed,
+        coders,
     })
 }
 

@@ -1,4 +1,4 @@
--- Laws of the ticks of a rate.
+-- Laws of the ticks of a rate, and of the rate that bits tell.
 use mathlib.Core.Path.{_≡_, refl}
 use Prim.Native.Nat.{ℕ, _*_, _≤_}
 use native.Mathlib.Omega.{arith}
@@ -6,6 +6,7 @@ use native.Mathlib.Decide.{ℕ-discrete}
 use native.Mathlib.Nat.{mul-le-mul}
 use borrow.Author.Tests.{eq-eqb, ne-eqb}
 use Rattle.wire.specs.Frame.{Kind, bps2400, bps1200, bps600, noise, tsvcis, rate, ticks, ticksOfRate}
+use Rattle.wire.specs.Walk.{before, rateOf}
 
 pub at-2400 : (r : ℕ) → r ≡ 2400 → 180 ≡ ticksOfRate r
 unfolding ticksOfRate
@@ -44,5 +45,29 @@ ticks-of-kind bps600 = refl
 ticks-of-kind noise = refl
 ticks-of-kind tsvcis = refl
 
-pub kind-ticks-most : (k : Kind) → ticks k ≤ 720
-kind-ticks-most k = omega (arith, ticks-of-kind k, ticks-most (rate k))
+-- ---- the rate that bits tell
+
+pub bits-2400 : (b : ℕ) → b ≡ 1 → 2400 ≡ rateOf b
+unfolding rateOf
+bits-2400 b e = simp (eq-eqb b 1 e)
+
+pub bits-600 : (b : ℕ) → b ≡ 2 → 600 ≡ rateOf b
+unfolding rateOf
+bits-600 b e = simp (ne-eqb b 1 (λ q. omega arith), eq-eqb b 2 e)
+
+pub bits-1200 : (b : ℕ) → b ≡ 4 → 1200 ≡ rateOf b
+unfolding rateOf
+bits-1200 b e = simp (ne-eqb b 1 (λ q. omega arith), ne-eqb b 2 (λ q. omega arith), eq-eqb b 4 e)
+
+pub bits-none : (b : ℕ) → (b ≡ 1 → ⊥) → (b ≡ 2 → ⊥) → (b ≡ 4 → ⊥) → 0 ≡ rateOf b
+unfolding rateOf
+bits-none b x y z = simp (ne-eqb b 1 x, ne-eqb b 2 y, ne-eqb b 4 z)
+
+-- the bits before a frame tell its rate; comfort noise has none
+pub rate-before : (k : Kind) → rateOf (before k) ≡ rate k
+unfolding rateOf
+rate-before bps2400 = refl
+rate-before bps1200 = refl
+rate-before bps600 = refl
+rate-before noise = refl
+rate-before tsvcis = refl

@@ -6,7 +6,7 @@ use Prim.Native.Nat.{ℕ, zero, suc, _+_, _-_}
 use lib.Dec.{ltb, eqb}
 use lib.ListN.{length, getD, set, take, drop}
 use Rattle.refusal.specs.Numbers.{tooLong, cutFrame, foreignBits, zeroCount, longCount, noiseNotLast, notBehind2400, mixedRates}
-use Rattle.wire.specs.Frame.{Frame, Kind, bps2400, bps1200, bps600, noise, tsvcis, number, size, code, rate, ticks, isShort, wireLength}
+use Rattle.wire.specs.Frame.{Frame, Kind, bps2400, bps1200, bps600, noise, tsvcis, number, size, code, rate, isShort, wireLength}
 use Rattle.wire.specs.declared.Shape.{Shape}
 use Rattle.wire.specs.declared.Found.{Found}
 use Rattle.wire.specs.declared.Found.the-variants.{Bad, Got}
@@ -125,6 +125,10 @@ before bps600 = 2
 before noise = 7
 before tsvcis = 1
 
+-- the rate of the coder frames before which these bits may stand; 0 of other bits
+unfoldable pub rateOf : ℕ → ℕ
+rateOf b = cond (eqb b 1) 2400 (cond (eqb b 2) 600 (cond (eqb b 4) 1200 0))
+
 -- all that the code asks of a frame of a kind and TC, in numbers
 abbrev pub shapeOf : Kind → ℕ → Shape
 shapeOf k t = record {
@@ -132,10 +136,9 @@ shapeOf k t = record {
   tc = t;
   size = size k;
   code = code k;
+  rate = rate k;
   own = own k;
   before = before k;
-  rate = rate k;
-  ticks = ticks k;
   wire = wireLength k t;
   body = size k + t;
 }

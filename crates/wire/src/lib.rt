@@ -4,7 +4,7 @@ ghost use Prim.Native.Nat.{_≤_, _<_};
 ghost use mathlib.Core.List.{[]};
 ghost use lib.ListN.{length};
 ghost use Rattle.wire.specs.Frame.{bps2400, bps1200, bps600, noise, tsvcis, ticksOfRate};
-ghost use Rattle.wire.specs.Walk.{named, counted, ending, lastFrame, foundOf, shapeOf};
+ghost use Rattle.wire.specs.Walk.{named, counted, ending, lastFrame, foundOf, shapeOf, rateOf};
 ghost use Rattle.wire.specs.Step.{plainShape, basedShape, fitShape, fitted, rated, allowed, barred, CountEnd, CountIs};
 
 // The kind of a 2400 bps frame without augmentation, the commonest.
@@ -16,18 +16,17 @@ pub const PLAIN_600: u16 = 3;
 // The octets of comfort noise.
 const NOISE_OCTETS: usize = 2;
 
-// A frame's numbers: kind and TC as in a row, octets of its base, rate code bits, its own bit and the bits of what may stand
-// before it, rate (0 of comfort noise), ticks, octets on the wire and those of its body among them. The bits 1, 2 and 4 are a
-// coder frame of 2400, 600 and 1200 bps, 8 is comfort noise.
+// A frame's numbers: kind and TC as in a row, octets of its base, rate code bits, rate (0 of comfort noise), its own bit and the
+// bits of what may stand before it, octets on the wire and those of its body among them. The bits 1, 2 and 4 are a coder frame
+// of 2400, 600 and 1200 bps, 8 is comfort noise. (Where rate follows before, the compiler makes one number of the two.)
 pub struct Shape {
     pub kind: u16,
     pub tc: usize,
     pub size: usize,
     pub code: u8,
+    pub rate: u32,
     pub own: u32,
     pub before: u32,
-    pub rate: u32,
-    pub ticks: u32,
     pub wire: usize,
     pub body: usize,
 }
@@ -44,15 +43,19 @@ fn wide(x: u8) -> usize
     x as usize
 }
 
-// The ticks of a coder frame at a rate; 0 at any other number.
-pub fn ticks_of_rate(rate: u32) -> usize
+// The ticks of a coder frame at a rate; 0 at any other number. Of three tests for equality the compiler would make a table with
+// 600 first; 2400 is the commonest.
+pub fn ticks_of_rate(rate: u32) -> u32
     ensures { λ r. ⌜ r ≡ ticksOfRate rate ⌝ }
 {
     if rate == 2400 {
         return 180;
     }
-    if rate == 1200 {
-        return 540;
+    if 1199 < rate {
+        if rate == 1200 {
+            return 540;
+        }
+        return 0;
     }
     if rate == 600 {
         return 720;
@@ -60,21 +63,36 @@ pub fn ticks_of_rate(rate: u32) -> usize
     0
 }
 
+// The rate of the coder frames before which these bits may stand; 0 where the bits are not those of one rate.
+pub fn rate_of(before: u32) -> u32
+    ensures { λ r. ⌜ r ≡ rateOf before ⌝ }
+{
+    if before == 1 {
+        return 2400;
+    }
+    if before == 2 {
+        return 600;
+    }
+    if before == 4 {
+        return 1200;
+    }
+    0
+}
+
 // ---- the shapes
 
 // A kind without augmentation, whose base is all that stands on the wire.
-fn plain(kind: u16, size: usize, code: u8, own: u32, before: u32, rate: u32, ticks: u32) -> Shape
-    ensures { λ r. ⌜ r ≡ plainShape kind size code own before rate ticks ⌝ }
+fn plain(kind: u16, size: usize, code: u8, rate: u32, own: u32, before: u32) -> Shape
+    ensures { λ r. ⌜ r ≡ plainShape kind size code rate own before ⌝ }
 {
     Shape {
         kind,
         tc: 0,
         size,
         code,
+        rate,
         own,
         before,
-        rate,
-        ticks,
         wire: size,
         body: size,
     }
@@ -83,25 +101,25 @@ fn plain(kind: u16, size: usize, code: u8, own: u32, before: u32, rate: u32, tic
 fn shape_2400() -> Shape
     ensures { λ r. ⌜ r ≡ shapeOf bps2400 0 ⌝ }
 {
-    plain(PLAIN_2400, 7, 0, 1, 1, 2400, 180)
+    plain(PLAIN_2400, 7, 0, 2400, 1, 1)
 }
 
 fn shape_1200() -> Shape
     ensures { λ r. ⌜ r ≡ shapeOf bps1200 0 ⌝ }
 {
-    plain(2, 11, 128, 4, 4, 1200, 540)
+    plain(2, 11, 128, 1200, 4, 4)
 }
 
 pub fn shape_600() -> Shape
     ensures { λ r. ⌜ r ≡ shapeOf bps600 0 ⌝ }
 {
-    plain(PLAIN_600, 7, 64, 2, 2, 600, 720)
+    plain(PLAIN_600, 7, 64, 600, 2, 2)
 }
 
 fn shape_noise() -> Shape
     ensures { λ r. ⌜ r ≡ shapeOf noise 0 ⌝ }
 {
-    plain(4, NOISE_OCTETS, 160, 8, 7, 0, 0)
+    plain(4, NOISE_OCTETS, 160, 0, 8, 7)
 }
 
 // A TSVCIS frame of this TC, whose count takes `count` octets.
@@ -114,10 +132,9 @@ fn shape_tsvcis(tc: usize, count: usize) -> Shape
         tc,
         size: 7,
         code: 0,
+        rate: 2400,
         own: 1,
         before: 1,
-        rate: 2400,
-        ticks: 180,
         wire: 7 + tc + count,
         body: 7 + tc,
     }
@@ -234,8 +251,7 @@ fn other_frame(n: usize, x: u8) -> Found
     last_octet(x)
 }
 
-// The frame that the unread octets end in, whole or not, with what TSVCIS alone is asked. The tests are those of `name` in
-// another order.
+// The frame that the unread octets end in, whole or not, with what TSVCIS alone is asked. The tests are those of `name`.
 fn last_frame(unread: &[u8]) -> Found
     ensures { λ r. ⌜ fitted (length (now (unread .entry))) r ≡ foundOf (lastFrame (now (unread .entry)) (length (now (unread .entry)))) ⌝ }
 {
@@ -247,13 +263,13 @@ fn last_frame(unread: &[u8]) -> Found
     if x < 64 {
         return Found::Got(shape_2400());
     }
-    if x < 192 {
-        if x < 128 {
-            return Found::Got(shape_600());
-        }
-        return other_frame(n, x);
+    if x < 128 {
+        return Found::Got(shape_600());
     }
-    tsvcis_frame(unread, x)
+    if 191 < x {
+        return tsvcis_frame(unread, x);
+    }
+    other_frame(n, x)
 }
 
 // A frame at the end of n unread octets, whole, with its own bit among those allowed: comfort noise is last, and a coder frame

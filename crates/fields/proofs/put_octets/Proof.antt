@@ -1,24 +1,24 @@
--- `fields::put_octets` meets its contract: the octets that were passed are filled.
-use mathlib.Core.Path.{_≡_, sym}
+-- `fields::put_octets` meets its contract: the octets from the last on are filled.
+use mathlib.Core.Path.{_≡_}
 use Prim.Native.Nat.{_+_, _-_, _*_, _≤_}
 use native.Mathlib.Omega.{arith}
 use Rattle.fields.specs.Words.{octets}
-use Rattle.fields.proofs.Filled.{Filled, filled-start, filled-step, filled-end}
-use Rattle.fields.proofs.Words.{length-octets-of, octets-at}
+use Rattle.fields.proofs.Filled.{FilledBack, filled-back-start, filled-back-step, filled-back-end}
+use Rattle.fields.proofs.Words.{length-octets-of, octets-more, octets-all}
 use Rattle.fields.proofs.put_octets.Statement.{statement}
 use Rattle.fields.proofs.put_octets.Tie as tie
 
 abbrev Inv-loop : tie.InvT-loop
-Inv-loop word out₀ left₀ i₀ out left i = Filled (octets 7 word) out₀ out i × (i ≤ 7) × (left + 8 * i ≡ 56)
+Inv-loop word out₀ from₀ i₀ out from i = FilledBack (octets (7 - i) word) out₀ out i 7 × (i ≤ 7) × (from + 8 * i ≡ 56)
 
 abbrev μ-loop : tie.MeasureT-loop
-μ-loop word out₀ left₀ i₀ out left i = 7 - i
+μ-loop word out₀ from₀ i₀ out from i = i
 
 loop-holds : tie.Need-loop-holds Inv-loop μ-loop
-loop-holds c = (filled-start _ _, omega arith, omega arith)
+loop-holds c = (filled-back-start _ _ _ (length-octets-of 0 _), omega arith, omega arith)
 
-sub-left : tie.Need-sub-left Inv-loop μ-loop
-sub-left c = omega arith
+sub-i : tie.Need-sub-i Inv-loop μ-loop
+sub-i c = omega arith
 
 shr-out : tie.Need-shr-out Inv-loop μ-loop
 shr-out c = omega arith
@@ -29,16 +29,15 @@ cast-out c = omega arith
 slice-write-out : tie.Need-slice-write-out Inv-loop μ-loop
 slice-write-out c = omega arith
 
-add-i : tie.Need-add-i Inv-loop μ-loop
-add-i c = omega arith
+add-from : tie.Need-add-from Inv-loop μ-loop
+add-from c = omega arith
 
 loop-less : tie.Need-loop-less Inv-loop μ-loop
 loop-less c = omega arith
 
 loop-again : tie.Need-loop-again Inv-loop μ-loop
 loop-again c = (
-  filled-step _ _ _ _ _ (c .before .loop .inv .0) (omega (arith, length-octets-of 7 (c .before .before .args .word))) (omega arith)
-      (sym (octets-at 7 _ _ _ (c .loop-test .taken) (omega arith))),
+  filled-back-step _ _ _ _ _ _ _ _ (c .before .loop .inv .0) (omega arith) (omega arith) (octets-more _ _ _ _ (omega arith) (omega arith)),
   omega arith,
   omega arith,
 )
@@ -47,7 +46,7 @@ same-length : tie.Need-same-length Inv-loop μ-loop
 same-length c = c .before .loop .inv .0 .long
 
 returns : tie.Need-returns Inv-loop μ-loop
-returns c = filled-end _ _ _ _ _ (c .before .loop .inv .0) (omega arith) (length-octets-of 7 _)
+returns c = filled-back-end _ _ _ _ _ _ (c .before .loop .inv .0) (omega arith) (octets-all _ _ (omega arith))
 
 pub put-octets-spec : {M : Type 1} → statement M
 put-octets-spec =
@@ -56,11 +55,11 @@ put-octets-spec =
     Inv-loop
     μ-loop
     loop-holds
-    sub-left
+    sub-i
     shr-out
     cast-out
     slice-write-out
-    add-i
+    add-from
     loop-less
     loop-again
     same-length

@@ -2,19 +2,19 @@ use native.Mathlib.Omega.{arith}
 use borrow.Author.Needs.{needs}
 use mathlib.Core.Path.{sym}
 use lib.Seq.{length-take-le}
-use Rattle.payload.proofs.Held.{Held, Sized, held-start, held-end, held-bad, held-sized, held-got}
+use Rattle.payload.proofs.Held.{Held, Sized, held-start, held-end, held-bad, held-sized, held-coder, held-noise}
 use Rattle.payload.proofs.walk_back.Statement.{statement}
 use Rattle.payload.proofs.walk_back.Tie as tie
 
 abbrev Inv-loop : tie.InvT-loop
-Inv-loop payload unread₀ frames₀ octets₀ rate₀ ticks₀ allowed₀ unread frames octets rate ticks allowed = Held payload unread frames octets rate ticks allowed
+Inv-loop payload unread₀ frames₀ octets₀ coders₀ allowed₀ unread frames octets coders allowed = Held payload unread frames octets coders allowed
 
 abbrev μ-loop : tie.MeasureT-loop
-μ-loop payload unread₀ frames₀ octets₀ rate₀ ticks₀ allowed₀ unread frames octets rate ticks allowed = unread
+μ-loop payload unread₀ frames₀ octets₀ coders₀ allowed₀ unread frames octets coders allowed = unread
 
 -- the turn's frame
 frame : (c : tie.After-found2 Inv-loop μ-loop) → Sized (c .before .before .before .before .before .loop .unread) (c .found2 .given .0 .0)
-frame c = held-sized _ _ _ _ _ _ _ (c .before .before .before .before .before .loop .inv) (c .before .before .before .before .loop-test .taken) (λ i. c .before .before .before .before .before .before .before .shared-slice-known .given i .fits) _ (c .found2 .given .1) (c .before .before .step .ensures)
+frame c = held-sized _ _ _ _ _ _ (c .before .before .before .before .before .loop .inv) (c .before .before .before .before .loop-test .taken) (λ i. c .before .before .before .before .before .before .before .shared-slice-known .given i .fits) _ (c .found2 .given .1) (c .before .before .step .ensures)
 
 anything-requires : tie.Need-anything-requires Inv-loop μ-loop
 anything-requires c κs = search needs
@@ -32,7 +32,7 @@ enum-known-found : tie.Need-enum-known-found Inv-loop μ-loop
 enum-known-found c = search needs
 
 returns : tie.Need-returns Inv-loop μ-loop
-returns c = held-bad _ _ _ _ _ _ _ (c .before .before .before .before .before .before .loop .inv) (c .before .before .before .before .before .loop-test .taken) _ (c .before .found .given .1) (c .before .before .before .step .ensures)
+returns c = held-bad _ _ _ _ _ _ (c .before .before .before .before .before .before .loop .inv) (c .before .before .before .before .before .loop-test .taken) _ (c .before .found .given .1) (c .before .before .before .step .ensures)
 
 enum-known-found-2 : tie.Need-enum-known-found-2 Inv-loop μ-loop
 enum-known-found-2 c = search needs
@@ -46,17 +46,23 @@ add-frames c = omega (arith, c .before .before .before .before .before .before .
 add-octets : tie.Need-add-octets Inv-loop μ-loop
 add-octets c = let w = frame (c .before .before .before) in omega (arith, w .body, w .room, c .before .before .before .before .before .before .before .before .loop .inv .inside, c .before .before .before .before .before .before .before .before .loop .inv .short)
 
-add-ticks : tie.Need-add-ticks Inv-loop μ-loop
-add-ticks c = let w = frame (c .before .before .before .before) in omega (arith, w .lasts, c .before .before .before .before .before .before .before .before .before .loop .inv .most, c .before .before .before .before .before .before .before .before .before .loop .inv .few, c .before .before .before .before .before .before .before .before .before .loop .inv .short)
+add-coders : tie.Need-add-coders Inv-loop μ-loop
+add-coders c = omega (arith, c .before .before .before .before .before .before .before .before .before .before .loop .inv .most, c .before .before .before .before .before .before .before .before .before .before .loop .inv .few, c .before .before .before .before .before .before .before .before .before .before .loop .inv .short)
 
 loop-less : tie.Need-loop-less Inv-loop μ-loop
-loop-less c = omega (arith, frame (c .before .before .before .before) .some, c .before .before .before .before .before .before .before .before .loop-test .taken)
+loop-less c = omega (arith, frame (c .before .before .before .before .before) .some, c .before .before .before .before .before .before .before .before .before .loop-test .taken)
 
 loop-again : tie.Need-loop-again Inv-loop μ-loop
-loop-again c = held-got _ _ _ _ _ _ _ (c .before .before .before .before .before .before .before .before .before .loop .inv) (c .before .before .before .before .before .before .before .before .loop-test .taken) (λ i. c .before .before .before .before .before .before .before .before .before .before .before .shared-slice-known .given i .fits) _ (c .before .before .before .before .found2 .given .1) (c .before .before .before .before .before .before .step .ensures)
+loop-again c = held-coder _ _ _ _ _ _ (c .before .before .before .before .before .before .before .before .before .before .loop .inv) (c .before .before .before .before .before .before .before .before .before .loop-test .taken) (λ i. c .before .before .before .before .before .before .before .before .before .before .before .before .shared-slice-known .given i .fits) _ (c .before .before .before .before .before .found2 .given .1) (c .before .before .before .before .before .before .before .step .ensures) (c .if1 .taken)
+
+loop-less-2 : tie.Need-loop-less-2 Inv-loop μ-loop
+loop-less-2 c = omega (arith, frame (c .before .before .before .before .before) .some, c .before .before .before .before .before .before .before .before .before .loop-test .taken)
+
+loop-again-2 : tie.Need-loop-again-2 Inv-loop μ-loop
+loop-again-2 c = held-noise _ _ _ _ _ _ (c .before .before .before .before .before .before .before .before .before .before .loop .inv) (c .before .before .before .before .before .before .before .before .before .loop-test .taken) (λ i. c .before .before .before .before .before .before .before .before .before .before .before .before .shared-slice-known .given i .fits) _ (c .before .before .before .before .before .found2 .given .1) (c .before .before .before .before .before .before .before .step .ensures) (c .if1 .left)
 
 returns-2 : tie.Need-returns-2 Inv-loop μ-loop
-returns-2 c = held-end _ _ _ _ _ _ _ (c .before .loop .inv) (c .loop-test .left)
+returns-2 c = held-end _ _ _ _ _ _ (c .before .loop .inv) (c .loop-test .left)
 
 pub walk-back-spec : {M : Type 1} → statement M
 walk-back-spec =
@@ -74,7 +80,9 @@ walk-back-spec =
     sub-unread
     add-frames
     add-octets
-    add-ticks
+    add-coders
     loop-less
     loop-again
+    loop-less-2
+    loop-again-2
     returns-2)

@@ -28,17 +28,17 @@ shape-600-requires c κs = search needs
 returns-3 : tie.Need-returns-3
 returns-3 c = fitted-plain _ _ bps600 (λ y. refl) (ending-one _ _ _ (omega arith) refl (omega arith) ∙ named-600 _ (omega arith) (omega arith)) (c .shape-600 .ensures)
 
-other-frame-requires : tie.Need-other-frame-requires
-other-frame-requires c κs = search needs
-
-returns-4 : tie.Need-returns-4
-returns-4 c = fitted-other _ _ _ (omega arith) (omega arith) (ending-one _ _ _ (omega arith) refl (omega arith)) (c .other-frame .result) (c .other-frame .ensures)
-
 tsvcis-frame-requires : tie.Need-tsvcis-frame-requires
 tsvcis-frame-requires c κs = record { some = omega arith; last = refl; high = omega arith }
 
+returns-4 : tie.Need-returns-4
+returns-4 c = fitted-whole _ _ (c .tsvcis-frame .ensures)
+
+other-frame-requires : tie.Need-other-frame-requires
+other-frame-requires c κs = search needs
+
 returns-5 : tie.Need-returns-5
-returns-5 c = fitted-whole _ _ (c .tsvcis-frame .ensures)
+returns-5 c = fitted-other _ _ _ (omega arith) (omega arith) (ending-one _ _ _ (omega arith) refl (omega arith)) (c .other-frame .result) (c .other-frame .ensures)
 
 pub last-frame-spec : {M : Type 1} → statement M
 last-frame-spec =
@@ -51,7 +51,7 @@ last-frame-spec =
     returns-2
     shape-600-requires
     returns-3
-    other-frame-requires
-    returns-4
     tsvcis-frame-requires
+    returns-4
+    other-frame-requires
     returns-5)

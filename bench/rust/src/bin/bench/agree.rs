@@ -1,13 +1,15 @@
-//! The three implementations must agree on every input before any is timed.
+//! The three implementations must agree on every input, at every place, before any is timed.
 
 use crate::calls::{self, Calls};
 use crate::inputs::{INPUTS, Mix, Small, mode};
 
 #[track_caller]
 fn same<T: PartialEq + std::fmt::Debug>(answer: impl Fn(&Calls) -> T) {
-    let rattle = answer(&calls::rattle());
-    assert_eq!(rattle, answer(&calls::c()), "rattle and C");
-    assert_eq!(rattle, answer(&calls::rust()), "rattle and Rust");
+    let [rattle, c, rust] = calls::implementations();
+    let wanted = answer(&rattle[0]);
+    for calls in rattle.iter().chain(c).chain(rust) {
+        assert_eq!(wanted, answer(calls));
+    }
 }
 
 pub fn on_packets(mix: &Mix) {

@@ -1,52 +1,6 @@
-//! The three implementations behind one C ABI, so that each pays for the same call.
+//! The implementations that are measured, each at some places in memory: see places.sh.
 
-use safe::Refusal;
-use std::slice::{from_raw_parts, from_raw_parts_mut};
-
-#[repr(C)]
-#[derive(Clone, Copy, Debug, PartialEq)]
-pub struct Reading {
-    pub number: u32,
-    pub place: usize,
-    pub rows: usize,
-    pub octets: usize,
-}
-
-#[repr(C)]
-#[derive(Clone, Copy, Debug, PartialEq)]
-pub struct Writing {
-    pub number: u32,
-    pub place: usize,
-    pub octets: usize,
-}
-
-#[repr(C)]
-#[derive(Clone, Copy, Debug, PartialEq)]
-pub struct Time {
-    pub number: u32,
-    pub place: usize,
-    pub time: usize,
-}
-
-#[repr(C)]
-#[derive(Clone, Copy, Debug, PartialEq)]
-pub struct Part {
-    pub stand_in: u32,
-    pub start: usize,
-    pub length: usize,
-}
-
-#[repr(C)]
-#[derive(Clone, Copy, Debug, PartialEq)]
-pub struct Settings(pub [u16; 4]);
-
-#[repr(C)]
-#[derive(Clone, Copy, Debug, PartialEq)]
-pub struct SettingsReading {
-    pub number: u32,
-    pub place: usize,
-    pub settings: Settings,
-}
+use safe::abi::{Part, Reading, SettingsReading, Time, Writing};
 
 type CountFn = unsafe extern "C" fn(*const u8, usize) -> i32;
 type ReadFn = unsafe extern "C" fn(*const u8, usize, *mut u16, usize, *mut u8, usize) -> Reading;
@@ -60,7 +14,8 @@ type SettingsWriteFn = unsafe extern "C" fn(u16, u16, u16, u16, *mut u8, usize) 
 type UnpackFn = unsafe extern "C" fn(u8, *const u8, usize, *mut u16, usize) -> Writing;
 type PackFn = unsafe extern "C" fn(u8, *const u16, usize, *mut u8, usize) -> Writing;
 
-/// One implementation.
+/// One implementation at one place. The functions stand in the order that places.sh gives them.
+#[repr(C)]
 pub struct Calls {
     count: CountFn,
     read: ReadFn,
@@ -147,221 +102,17 @@ impl Calls {
     }
 }
 
-macro_rules! declared {
-    ($count:ident $read:ident $write:ident $ticks:ident $ptime:ident $augmentation:ident
-     $frame_or:ident $settings_read:ident $settings_write:ident $unpack:ident $pack:ident) => {{
-        unsafe extern "C" {
-            fn $count(p: *const u8, n: usize) -> i32;
-            fn $read(
-                p: *const u8,
-                n: usize,
-                r: *mut u16,
-                rn: usize,
-                b: *mut u8,
-                bn: usize,
-            ) -> Reading;
-            fn $write(
-                r: *const u16,
-                rn: usize,
-                b: *const u8,
-                bn: usize,
-                o: *mut u8,
-                on: usize,
-            ) -> Writing;
-            fn $ticks(p: *const u8, n: usize) -> Time;
-            fn $ptime(rate: u32, frames: usize) -> Time;
-            fn $augmentation(p: *const u8, n: usize, row: usize) -> Part;
-            fn $frame_or(p: *const u8, n: usize, row: usize, s: *const u8, sn: usize) -> Part;
-            fn $settings_read(p: *const u8, n: usize) -> SettingsReading;
-            fn $settings_write(a: u16, b: u16, c: u16, t: u16, o: *mut u8, on: usize) -> Writing;
-            fn $unpack(mode: u8, b: *const u8, bn: usize, f: *mut u16, fn_: usize) -> Writing;
-            fn $pack(mode: u8, f: *const u16, fn_: usize, o: *mut u8, on: usize) -> Writing;
-        }
-        Calls {
-            count: $count,
-            read: $read,
-            write: $write,
-            packet_ticks: $ticks,
-            ptime: $ptime,
-            augmentation: $augmentation,
-            frame_or: $frame_or,
-            settings_read: $settings_read,
-            settings_write: $settings_write,
-            unpack: $unpack,
-            pack: $pack,
-        }
-    }};
-}
+/// So many as places.sh makes.
+pub const PLACES: usize = 8;
 
-pub fn rattle() -> Calls {
-    declared!(moult_count moult_read moult_write moult_packet_ticks moult_ptime moult_augmentation
-        moult_frame_or moult_settings_read moult_settings_write moult_unpack moult_pack)
-}
+pub type Placed = [Calls; PLACES];
 
-pub fn c() -> Calls {
-    declared!(c_count c_read c_write c_packet_ticks c_ptime c_augmentation
-        c_frame_or c_settings_read c_settings_write c_unpack c_pack)
-}
-
-pub fn rust() -> Calls {
-    Calls {
-        count: rust_count,
-        read: rust_read,
-        write: rust_write,
-        packet_ticks: rust_packet_ticks,
-        ptime: rust_ptime,
-        augmentation: rust_augmentation,
-        frame_or: rust_frame_or,
-        settings_read: rust_settings_read,
-        settings_write: rust_settings_write,
-        unpack: rust_unpack,
-        pack: rust_pack,
+pub fn implementations() -> [&'static Placed; 3] {
+    unsafe extern "C" {
+        static places_moult: Placed;
+        static places_c: Placed;
+        static places_rust: Placed;
     }
-}
-
-fn parts<T: Default>(answer: Result<T, Refusal>) -> (u32, usize, T) {
-    match answer {
-        Ok(value) => (0, 0, value),
-        Err(refusal) => (refusal.number, refusal.place, T::default()),
-    }
-}
-
-fn writing(answer: Result<usize, Refusal>) -> Writing {
-    let (number, place, octets) = parts(answer);
-    Writing {
-        number,
-        place,
-        octets,
-    }
-}
-
-fn time(answer: Result<usize, Refusal>) -> Time {
-    let (number, place, time) = parts(answer);
-    Time {
-        number,
-        place,
-        time,
-    }
-}
-
-unsafe extern "C" fn rust_count(p: *const u8, n: usize) -> i32 {
-    safe::payload::count(unsafe { from_raw_parts(p, n) })
-}
-
-unsafe extern "C" fn rust_read(
-    p: *const u8,
-    n: usize,
-    r: *mut u16,
-    rn: usize,
-    b: *mut u8,
-    bn: usize,
-) -> Reading {
-    let payload = unsafe { from_raw_parts(p, n) };
-    let (rows, bodies) = unsafe { (from_raw_parts_mut(r, rn), from_raw_parts_mut(b, bn)) };
-    let (number, place, (rows, octets)) = parts(safe::payload::read(payload, rows, bodies));
-    Reading {
-        number,
-        place,
-        rows,
-        octets,
-    }
-}
-
-unsafe extern "C" fn rust_write(
-    r: *const u16,
-    rn: usize,
-    b: *const u8,
-    bn: usize,
-    o: *mut u8,
-    on: usize,
-) -> Writing {
-    let (rows, bodies) = unsafe { (from_raw_parts(r, rn), from_raw_parts(b, bn)) };
-    writing(safe::writer::write(rows, bodies, unsafe {
-        from_raw_parts_mut(o, on)
-    }))
-}
-
-unsafe extern "C" fn rust_packet_ticks(p: *const u8, n: usize) -> Time {
-    time(safe::payload::packet_ticks(unsafe { from_raw_parts(p, n) }))
-}
-
-unsafe extern "C" fn rust_ptime(rate: u32, frames: usize) -> Time {
-    time(safe::payload::ptime(rate, frames))
-}
-
-unsafe extern "C" fn rust_augmentation(p: *const u8, n: usize, row: usize) -> Part {
-    let part = safe::payload::augmentation(unsafe { from_raw_parts(p, n) }, row);
-    Part {
-        stand_in: 0,
-        start: part.as_ptr() as usize - p as usize,
-        length: part.len(),
-    }
-}
-
-unsafe extern "C" fn rust_frame_or(
-    p: *const u8,
-    n: usize,
-    row: usize,
-    _: *const u8,
-    sn: usize,
-) -> Part {
-    match safe::payload::frame(unsafe { from_raw_parts(p, n) }, row) {
-        Some(part) => Part {
-            stand_in: 0,
-            start: part.as_ptr() as usize - p as usize,
-            length: part.len(),
-        },
-        None => Part {
-            stand_in: 1,
-            start: 0,
-            length: sn,
-        },
-    }
-}
-
-unsafe extern "C" fn rust_settings_read(p: *const u8, n: usize) -> SettingsReading {
-    let (number, place, values) = parts(safe::settings::read(unsafe { from_raw_parts(p, n) }));
-    SettingsReading {
-        number,
-        place,
-        settings: Settings(values),
-    }
-}
-
-unsafe extern "C" fn rust_settings_write(
-    a: u16,
-    b: u16,
-    c: u16,
-    t: u16,
-    o: *mut u8,
-    on: usize,
-) -> Writing {
-    let out = unsafe { from_raw_parts_mut(o, on) };
-    writing(safe::settings::write([a, b, c, t], out))
-}
-
-unsafe extern "C" fn rust_unpack(
-    mode: u8,
-    b: *const u8,
-    bn: usize,
-    f: *mut u16,
-    fields_n: usize,
-) -> Writing {
-    let body = unsafe { from_raw_parts(b, bn) };
-    writing(safe::fields::unpack(mode, body, unsafe {
-        from_raw_parts_mut(f, fields_n)
-    }))
-}
-
-unsafe extern "C" fn rust_pack(
-    mode: u8,
-    f: *const u16,
-    fields_n: usize,
-    o: *mut u8,
-    on: usize,
-) -> Writing {
-    let fields = unsafe { from_raw_parts(f, fields_n) };
-    writing(safe::fields::pack(mode, fields, unsafe {
-        from_raw_parts_mut(o, on)
-    }))
+    // Tables of functions of these types, never written.
+    unsafe { [&places_moult, &places_c, &places_rust] }
 }

@@ -1,7 +1,7 @@
 //! The listing program beside a C and a Rust one: whole processes over one file.
 
 use crate::inputs::Mix;
-use crate::timing::{print_head, print_line};
+use crate::timing::{Table, print_head, print_line};
 use std::fs::{self, File};
 use std::path::Path;
 use std::process::{Command, Stdio};
@@ -79,7 +79,7 @@ fn measure(mix: &Mix, programs: &Programs, file: &Path) {
     print_line("listing", mix.name, ns);
 }
 
-pub fn run(mixes: &[Mix], programs: &Programs, file: &Path) {
+pub fn run(table: &Table, mixes: &[Mix], programs: &Programs, file: &Path) {
     println!();
     if !programs.0[0].exists() {
         println!(
@@ -92,7 +92,7 @@ pub fn run(mixes: &[Mix], programs: &Programs, file: &Path) {
         "listing: whole runs over {FILE_OCTETS} octets, file in the page cache, output to /dev/null"
     );
     print_head("ns a payload");
-    for mix in mixes {
+    for mix in mixes.iter().filter(|mix| table.has("listing", mix.name)) {
         measure(mix, programs, file);
     }
 }
