@@ -21,9 +21,6 @@ use Rattle.listing.proofs.Digits.{decimal-long}
 
 -- a word and a number
 module _ (o : List ℕ) (a : ℕ) (w : List ℕ) (n : ℕ) (room : a + (length w + 20) ≤ length o) {e : List ℕ} {r : ℕ} (p : Puts o a w e r) where
-  pub field-room : r + 20 ≤ length e
-  field-room = puts-room o a w (length w) 20 p (omega arith) (omega arith)
-
   pub field-put : {f : List ℕ} {s : ℕ} → Puts e r (decimal n) f s → Puts o a (w ++ decimal n) f s
   field-put q = puts-then o a w (decimal n) p q (omega (arith, decimal-long n))
 
