@@ -25,12 +25,6 @@ const BODY_END: u8 = 63;
 // No mode has more fields.
 pub const MOST_FIELDS: usize = 11;
 
-// The index of Voicing among the fields of each mode.
-pub const VOICING: usize = 0;
-
-// The index of Pitch among the fields of modes 2 and 3.
-pub const PITCH: usize = 1;
-
 // The widths of the fields of modes 1 to 3 in bits, from B_01 on, a row for each mode. No field has width 0: it fills a row up.
 const WIDTHS: [[u8; MOST_FIELDS]; 3] = [
     // Voicing; LSF1,4; LSF1,3; LSF1,2; LSF1,1; LSF2,4; LSF2,3; LSF2,2; LSF2,1; GAIN2; GAIN1

@@ -133,9 +133,9 @@ fn each_alone(mode: u8, count: usize)
     }
 }
 
-// Document 01, "Bench payloads": mode 1, all 0 but one field.
+// Document 01, "Bench payloads": mode 1, all 0 but Voicing, the first field, or GAIN1, the last.
 fn examples() {
-    alone(1, 11, fields::VOICING, 16);
+    alone(1, 11, 0, 16);
     alone(1, 11, 10, 1);
     alone(1, 11, 10, 64);
 }
