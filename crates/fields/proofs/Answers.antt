@@ -7,14 +7,13 @@ use native.Mathlib.Omega.{arith}
 use borrow.Author.Tests.{lt-ltb, le-ltb, eq-eqb, ne-eqb, not-true, not-false}
 use lib.Dec.{eqb}
 use lib.ListN.{length, getD, drop}
-use Rattle.fields.specs.declared.Unpacked.{Unpacked}
 use Rattle.fields.specs.declared.Unpacked.the-variants.{Fields, Refused}
 use Rattle.fields.specs.declared.Packed.the-variants.{Octets, Refused as NotPacked}
 use Rattle.fields.specs.Bits.{spelled}
 use Rattle.fields.specs.Table.{fieldsOf, fieldBits, bodyOf, consecutive, total}
 use Rattle.fields.specs.Modes.{isMode, widthsOf, countOf, tableOf, firstLarge}
 use Rattle.fields.specs.Answers.{refused, accepted, unpacking, packing, filled, Unpacks, Packs}
-use Rattle.fields.specs.Words.{wordOf, octets, turn, Spells, Gathers}
+use Rattle.fields.specs.Words.{wordOf, octets, turn, unpackedInto, Spells, Gathers}
 use Rattle.fields.proofs.Gathering.{gathered-lt, gathered-body}
 use Rattle.fields.proofs.Modes.{mode-total}
 use Rattle.fields.proofs.Words.{octets-word, word-turned, Octets as AreOctets}
@@ -53,18 +52,19 @@ module _ (mode : ℕ) (body before : List ℕ) where
             not-unpacked 9 n refl
             (rw (e, m, eq-eqb (length body) 7 l, le-ltb 63 (getD body 6 0) h, lt-ltb (length before) (countOf mode) (omega arith)))
 
-        pub unpack-all : n ≤ length before → {after : List ℕ} → after ≡ fieldsOf (tableOf mode) body ++ drop n before
-            → Unpacks mode body before after (Fields n)
+        pub unpack-all : n ≤ length before → {after : List ℕ} → after ≡ unpackedInto mode body before → Unpacks mode body before after (Fields n)
         unfolding unpacking filled
         unpack-all s {after} f =
             let a : unpacking mode body (length before) ≡ accepted n =
             rw (e, m, eq-eqb (length body) 7 l, le-ltb 63 (getD body 6 0) h, le-ltb (length before) (countOf mode) (omega arith)) in
-            record { answer = sym a; fields = rw a f }
+            record { answer = sym a; fields = rw (a, e) f }
 
--- the same mode and the same answer
-pub unpacks-as : {mode k : ℕ} {body before after : List ℕ} {r q : Unpacked} → mode ≡ k → r ≡ q → Unpacks k body before after r
-    → Unpacks mode body before after q
-unpacks-as e f h = rw e (rw f at h)
+-- of a mode that is k, what is known of k
+pub room-as : {mode k room : ℕ} → mode ≡ k → countOf mode ≤ room → countOf k ≤ room
+room-as e h = rw e at h
+
+pub into-as : {mode k : ℕ} (body lent : List ℕ) {after : List ℕ} → mode ≡ k → after ≡ unpackedInto k body lent → after ≡ unpackedInto mode body lent
+into-as body lent e h = rw e h
 
 -- the word that unpacking takes the fields of
 pub spells-body : (body : List ℕ) → length body ≡ 7 → AreOctets body → getD body 6 0 ≤ 63 → {word turned : ℕ} → word ≡ wordOf body

@@ -3,11 +3,11 @@ use mathlib.Core.Path.{_≡_, refl, sym, _∙_}
 use mathlib.Core.Bool.{Bool, true, false, _&&_, true≢false}
 use mathlib.Core.List.{List, [], _∷_, _++_, map}
 use Prim.Native.Nat.{ℕ, zero, suc, _-_, _≤_, _<_}
-use native.Mathlib.Decide.{decLt}
+use native.Mathlib.Decide.{decLt, ℕ-discrete}
 use native.Mathlib.Omega.{arith}
 use borrow.Author.Tests.{le-leb, lt-leb, leb-true, eqb-true}
 use lib.Dec.{leb, eqb}
-use lib.ListN.{length, getD, replicate, List·getD-append, List·getD-map}
+use lib.ListN.{length, getD, replicate, List·getD-append}
 use Rattle.fields.specs.Table.{total}
 use Rattle.fields.specs.Modes.{isMode, widths, widthsOf, countOf, every, ruled}
 
@@ -108,9 +108,18 @@ pub width-at : (mode : ℕ) → isMode mode ≡ true → (i : ℕ) → i < count
 unfolding widthsOf countOf
 width-at mode h i l = padded-at widths (mode - 1) i (omega (arith, three, mode-from mode h, mode-to mode h)) l
 
-pub count-at : (mode : ℕ) → getD (map length widths) (mode - 1) 0 ≡ countOf mode
-unfolding countOf widthsOf
-count-at mode = List·getD-map length widths (mode - 1) []
+-- mode 1 has eleven fields, the others ten
+pub count-first : (mode : ℕ) → mode ≡ 1 → 11 ≡ countOf mode
+unfolding countOf widthsOf widths
+count-first mode e = rw e refl
+
+pub count-other : (mode : ℕ) → isMode mode ≡ true → (mode ≡ 1 → ⊥) → 10 ≡ countOf mode
+unfolding countOf widthsOf widths
+count-other mode m a = go (ℕ-discrete mode 2)
+  where
+    go : Dec (mode ≡ 2) → 10 ≡ countOf mode
+    go (yes e) = rw e refl
+    go (no b) = rw (third-mode mode m a b) refl
 
 -- no mode has more fields than a row has places
 pub count-le : (mode : ℕ) → isMode mode ≡ true → countOf mode ≤ 11

@@ -1,12 +1,12 @@
 -- Words, which private contracts cite: the octets of a body as one number, and what gathering fields finds.
 use mathlib.Core.Path.{_≡_}
 use mathlib.Core.Bool.{true}
-use mathlib.Core.List.{List, [], _∷_, reverse}
+use mathlib.Core.List.{List, [], _∷_, _++_, reverse}
 use Prim.Native.Nat.{ℕ, zero, suc, _+_, _*_, _/_, _%_, _^_, _≤_, _<_}
 use lib.Bits.{bitAnd}
-use lib.ListN.{length, getD}
+use lib.ListN.{length, getD, drop}
 use Rattle.fields.specs.Bits.{digits, spelled, bitsOf}
-use Rattle.fields.specs.Table.{fieldBits}
+use Rattle.fields.specs.Table.{fieldsOf, fieldBits}
 use Rattle.fields.specs.Modes.{isMode, widthsOf, countOf, tableOf, firstLarge}
 use Rattle.fields.specs.Answers.{refused, packing}
 
@@ -41,6 +41,10 @@ pub record Spells (body : List ℕ) (word : ℕ) : Type 0 where
   pub long : length body ≡ 7
   pub end : getD body 6 0 ≤ 63
   pub spells : word ≡ spelled (bitsOf body)
+
+-- lent fields whose first places hold the fields of a mode of a body
+abbrev pub unpackedInto : ℕ → List ℕ → List ℕ → List ℕ
+unpackedInto mode body lent = fieldsOf (tableOf mode) body ++ drop (countOf mode) lent
 
 -- what gathering answers: a refusal, whatever the room, or a word that has the bits of the fields
 pub record Gathers (mode : ℕ) (fields : List ℕ) (number place word : ℕ) : Type 0 where

@@ -7,7 +7,7 @@ ghost use lib.Dec.{ltb};
 ghost use lib.ListN.{length, getD, drop};
 ghost use Rattle.fields.specs.Modes.{isMode, widthsOf, countOf};
 ghost use Rattle.fields.specs.Answers.{Unpacks, Packs};
-ghost use Rattle.fields.specs.Words.{wordOf, firstFour, lastThree, octets, turn, swap, Spells, Gathers};
+ghost use Rattle.fields.specs.Words.{wordOf, firstFour, lastThree, octets, turn, swap, unpackedInto, Spells, Gathers};
 use refusal::FOREIGN_BITS;
 use refusal::LARGE_FIELD;
 use refusal::Refusal;
@@ -35,9 +35,6 @@ const WIDTHS: [[u8; MOST_FIELDS]; 3] = [
     [5, 8, 4, 5, 6, 4, 5, 6, 5, 6, 0],
 ];
 
-// The fields of each mode: its row without the zeros.
-const COUNTS: [usize; 3] = [11, 10, 10];
-
 // The number of fields that were written, or why none was.
 pub enum Unpacked {
     Fields(usize),
@@ -60,12 +57,15 @@ fn is_mode(mode: u8) -> bool
     mode <= 3
 }
 
-// The number of fields of a mode.
+// The number of fields of a mode: mode 1 has one more than the others.
 fn count_of(mode: u8) -> usize
     requires { ⌜ isMode mode ≡ true ⌝ }
     ensures { λ r. ⌜ r ≡ countOf mode ⌝ }
 {
-    COUNTS[(mode - 1) as usize]
+    if mode == 1 {
+        return MOST_FIELDS;
+    }
+    MOST_FIELDS - 1
 }
 
 // The width of a mode's field.
@@ -136,17 +136,11 @@ fn field_at(word: u64, from: u64, width: u64) -> u16
 }
 
 // Fills the first places with the fields of a word.
-fn take_fields(mode: u8, word: u64, fields: &mut [u16]) -> Unpacked
-    requires { ⌜ isMode mode ≡ true ⌝ }
-    ensures { λ r. ⌜ ((body : List ℕ) → Spells body word → Unpacks mode body (now (fields .entry)) (now (fields .exit)) r) ⌝ }
+fn take_fields(mode: u8, word: u64, fields: &mut [u16])
+    requires { ⌜ (isMode mode ≡ true) × (countOf mode ≤ length (now fields)) ⌝ }
+    ensures { λ _. ⌜ ((body : List ℕ) → Spells body word → now (fields .exit) ≡ unpackedInto mode body (now (fields .entry))) ⌝ }
 {
     let count = count_of(mode);
-    if fields.len() < count {
-        return Unpacked::Refused(Refusal {
-            number: SHORT_LIST,
-            place: count,
-        });
-    }
     let mut left: u64 = 56;
     let mut i = 0;
     while i < count {
@@ -155,21 +149,22 @@ fn take_fields(mode: u8, word: u64, fields: &mut [u16]) -> Unpacked
         fields[i] = field_at(word, left, width);
         i += 1;
     }
-    Unpacked::Fields(count)
 }
 
 // The same, with a call for each mode, so that its widths are constants to the compiler.
-fn take(mode: u8, word: u64, fields: &mut [u16]) -> Unpacked
-    requires { ⌜ isMode mode ≡ true ⌝ }
-    ensures { λ r. ⌜ ((body : List ℕ) → Spells body word → Unpacks mode body (now (fields .entry)) (now (fields .exit)) r) ⌝ }
+fn take(mode: u8, word: u64, fields: &mut [u16])
+    requires { ⌜ (isMode mode ≡ true) × (countOf mode ≤ length (now fields)) ⌝ }
+    ensures { λ _. ⌜ ((body : List ℕ) → Spells body word → now (fields .exit) ≡ unpackedInto mode body (now (fields .entry))) ⌝ }
 {
     if mode == 1 {
-        return take_fields(1, word, fields);
+        take_fields(1, word, fields);
+        return;
     }
     if mode == 2 {
-        return take_fields(2, word, fields);
+        take_fields(2, word, fields);
+        return;
     }
-    take_fields(3, word, fields)
+    take_fields(3, word, fields);
 }
 
 // Unpacks the fields of a body of seven octets, in the order of the mode's widths.
@@ -194,12 +189,15 @@ pub fn unpack(mode: u8, body: &[u8], fields: &mut [u16]) -> Unpacked
             place: 6,
         });
     }
-    // The answer is made anew: handed on as it is, the refusals above would go through memory too.
-    let answer = take(mode, turned(word_of(body)), fields);
-    match answer {
-        Unpacked::Fields(count) => Unpacked::Fields(count),
-        Unpacked::Refused(refusal) => Unpacked::Refused(refusal),
+    let count = count_of(mode);
+    if fields.len() < count {
+        return Unpacked::Refused(Refusal {
+            number: SHORT_LIST,
+            place: count,
+        });
     }
+    take(mode, turned(word_of(body)), fields);
+    Unpacked::Fields(count)
 }
 
 // What gathering fields finds: number and place of a refusal, 0 if there is none; then the word has the bits of the fields.

@@ -1,4 +1,5 @@
-// The library as a C host calls it. A slice is a pointer and a length; include/moult.h declares each function.
+// The library as a C host calls it. A slice is a pointer and a length; include/moult.h declares each function. A refusal returns
+// in its arm: so the compiler stores either answer by itself and chooses no values before.
 ghost use mathlib.Core.Path.{_≡_};
 ghost use Rattle.wire.specs.Walk.{readOf};
 ghost use Rattle.clock.specs.Time.{packetTicks, packetReport, ptimeOf, ptimeReport};
@@ -91,12 +92,14 @@ pub extern "C" fn moult_read(payload: &[u8], rows: &mut [u16], bodies: &mut [u8]
             rows: n,
             octets: m,
         },
-        Reading::Refused(refusal) => MoultReading {
-            number: refusal.number as u32,
-            place: refusal.place,
-            rows: 0,
-            octets: 0,
-        },
+        Reading::Refused(refusal) => {
+            return MoultReading {
+                number: refusal.number as u32,
+                place: refusal.place,
+                rows: 0,
+                octets: 0,
+            };
+        }
     }
 }
 
@@ -112,11 +115,13 @@ pub extern "C" fn moult_write(rows: &[u16], bodies: &[u8], out: &mut [u8]) -> Mo
             place: 0,
             octets: n,
         },
-        Writing::Refused(refusal) => MoultWriting {
-            number: refusal.number as u32,
-            place: refusal.place,
-            octets: 0,
-        },
+        Writing::Refused(refusal) => {
+            return MoultWriting {
+                number: refusal.number as u32,
+                place: refusal.place,
+                octets: 0,
+            };
+        }
     }
 }
 
@@ -132,11 +137,13 @@ pub extern "C" fn moult_packet_ticks(payload: &[u8]) -> MoultTime
             place: 0,
             time: ticks.0,
         },
-        PacketTicks::Refused(refusal) => MoultTime {
-            number: refusal.number as u32,
-            place: refusal.place,
-            time: 0,
-        },
+        PacketTicks::Refused(refusal) => {
+            return MoultTime {
+                number: refusal.number as u32,
+                place: refusal.place,
+                time: 0,
+            };
+        }
     }
 }
 
@@ -152,11 +159,13 @@ pub extern "C" fn moult_ptime(rate: u32, frames: usize) -> MoultTime
             place: 0,
             time: millis.0,
         },
-        PacketMillis::Refused(refusal) => MoultTime {
-            number: refusal.number as u32,
-            place: refusal.place,
-            time: 0,
-        },
+        PacketMillis::Refused(refusal) => {
+            return MoultTime {
+                number: refusal.number as u32,
+                place: refusal.place,
+                time: 0,
+            };
+        }
     }
 }
 
@@ -168,11 +177,13 @@ pub extern "C" fn moult_augmentation(payload: &[u8], row: usize) -> MoultPart
     let end = views::end_of(payload, row);
     let place = views::place_at(payload, end);
     match place {
-        Place::Missing => MoultPart {
-            stand_in: 0,
-            start: 0,
-            length: 0,
-        },
+        Place::Missing => {
+            return MoultPart {
+                stand_in: 0,
+                start: 0,
+                length: 0,
+            };
+        }
         Place::At(start, sizes) => {
             let tc = sizes.tc;
             if tc == 0 {
@@ -199,11 +210,13 @@ pub extern "C" fn moult_frame_or(payload: &[u8], row: usize, stand_in: &[u8]) ->
     let end = views::end_of(payload, row);
     let place = views::place_at(payload, end);
     match place {
-        Place::Missing => MoultPart {
-            stand_in: 1,
-            start: 0,
-            length: stand_in.len(),
-        },
+        Place::Missing => {
+            return MoultPart {
+                stand_in: 1,
+                start: 0,
+                length: stand_in.len(),
+            };
+        }
         Place::At(start, sizes) => MoultPart {
             stand_in: 0,
             start,
@@ -229,16 +242,18 @@ pub extern "C" fn moult_settings_read(text: &[u8]) -> MoultParsed
                 tcmax: s.tcmax,
             },
         },
-        Parsed::Refused(refusal) => MoultParsed {
-            number: refusal.number as u32,
-            place: refusal.place,
-            settings: MoultSettings {
-                first: 0,
-                second: 0,
-                third: 0,
-                tcmax: 0,
-            },
-        },
+        Parsed::Refused(refusal) => {
+            return MoultParsed {
+                number: refusal.number as u32,
+                place: refusal.place,
+                settings: MoultSettings {
+                    first: 0,
+                    second: 0,
+                    third: 0,
+                    tcmax: 0,
+                },
+            };
+        }
     }
 }
 
@@ -268,11 +283,13 @@ pub extern "C" fn moult_settings_write(
             place: 0,
             octets: n,
         },
-        Written::Refused(refusal) => MoultWriting {
-            number: refusal.number as u32,
-            place: refusal.place,
-            octets: 0,
-        },
+        Written::Refused(refusal) => {
+            return MoultWriting {
+                number: refusal.number as u32,
+                place: refusal.place,
+                octets: 0,
+            };
+        }
     }
 }
 
@@ -288,11 +305,13 @@ pub extern "C" fn moult_unpack(mode: u8, body: &[u8], fields: &mut [u16]) -> Mou
             place: 0,
             octets: n,
         },
-        Unpacked::Refused(refusal) => MoultWriting {
-            number: refusal.number as u32,
-            place: refusal.place,
-            octets: 0,
-        },
+        Unpacked::Refused(refusal) => {
+            return MoultWriting {
+                number: refusal.number as u32,
+                place: refusal.place,
+                octets: 0,
+            };
+        }
     }
 }
 
@@ -308,10 +327,12 @@ pub extern "C" fn moult_pack(mode: u8, fields: &[u16], out: &mut [u8]) -> MoultW
             place: 0,
             octets: n,
         },
-        Packed::Refused(refusal) => MoultWriting {
-            number: refusal.number as u32,
-            place: refusal.place,
-            octets: 0,
-        },
+        Packed::Refused(refusal) => {
+            return MoultWriting {
+                number: refusal.number as u32,
+                place: refusal.place,
+                octets: 0,
+            };
+        }
     }
 }

@@ -392,11 +392,11 @@ fn put_row(rows: &[u16], at: usize, bodies: &[u8], from: usize, out: &mut [u8], 
     if kind < 2 {
         return put_frame(bodies, from, layout_2400(), out, to);
     }
-    if 4 < kind {
-        return put_frame(bodies, from, layout_tsvcis(rows[at + 1]), out, to);
-    }
     if kind == 3 {
         return put_frame(bodies, from, layout_600(), out, to);
+    }
+    if 4 < kind {
+        return put_frame(bodies, from, layout_tsvcis(rows[at + 1]), out, to);
     }
     if kind < 3 {
         return put_frame(bodies, from, layout_1200(), out, to);

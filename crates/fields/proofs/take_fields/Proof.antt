@@ -1,8 +1,8 @@
 -- `fields::take_fields` meets its contract: the fields that were passed are filled.
+use mathlib.Core.Path.{refl}
 use Prim.Native.Nat.{_-_}
 use native.Mathlib.Omega.{arith}
 use Rattle.fields.specs.Modes.{widthsOf, countOf, tableOf}
-use Rattle.fields.proofs.Answers.{unpack-9, unpack-all}
 use Rattle.fields.proofs.Modes.{mode-total, mode-width}
 use Rattle.fields.proofs.Taking.{Taking, taking-start, taking-room, taking-step, taking-end}
 use Rattle.fields.proofs.take_fields.Statement.{statement}
@@ -15,26 +15,23 @@ abbrev μ-loop : tie.MeasureT-loop
 μ-loop mode word fields₀ count left₀ i₀ fields left i = count - i
 
 count-of-requires : tie.Need-count-of-requires Inv-loop μ-loop
-count-of-requires c κs = c .before .pre
-
-returns : tie.Need-returns Inv-loop μ-loop
-returns c body s = unpack-9 _ _ _ (c .before .before .before .pre) (s .long) (s .end) _ (c .before .count-of .ensures) (c .if1 .taken)
+count-of-requires c κs = c .before .pre .0
 
 loop-holds : tie.Need-loop-holds Inv-loop μ-loop
 loop-holds c = taking-start _ _ _
 
 width-of-requires : tie.Need-width-of-requires Inv-loop μ-loop
-width-of-requires c κs = (c .before .before .before .before .before .pre, omega arith)
+width-of-requires c κs = (c .before .before .before .before .pre .0, omega arith)
 
 sub-left : tie.Need-sub-left Inv-loop μ-loop
 unfolding countOf
 sub-left c =
-    taking-room _ _ _ _ _ _ _ (c .before .before .loop .inv) (omega arith) (c .width-of .ensures) (mode-total _ (c .before .before .before .before .before .before .pre))
+    taking-room _ _ _ _ _ _ _ (c .before .before .loop .inv) (omega arith) (c .width-of .ensures) (mode-total _ (c .before .before .before .before .before .pre .0))
 
 field-at-requires : tie.Need-field-at-requires Inv-loop μ-loop
 field-at-requires c κs = (
   omega (arith, c .before .before .loop .inv .room),
-  mode-width _ (c .before .before .before .before .before .before .pre) _ _ (omega arith) (c .width-of .ensures),
+  mode-width _ (c .before .before .before .before .before .pre .0) _ _ (omega arith) (c .width-of .ensures),
 )
 
 mul-fields : tie.Need-mul-fields Inv-loop μ-loop
@@ -58,11 +55,9 @@ loop-again c =
 same-length : tie.Need-same-length Inv-loop μ-loop
 same-length c = c .before .loop .inv .long
 
-returns-2 : tie.Need-returns-2 Inv-loop μ-loop
+returns : tie.Need-returns Inv-loop μ-loop
 unfolding countOf tableOf
-returns-2 c body s =
-    unpack-all _ _ _ (c .before .before .before .before .before .pre) (s .long) (s .end) _ (c .before .before .before .count-of .ensures) (c .before .before .if1 .left)
-    (taking-end _ _ _ _ _ _ _ (c .before .loop .inv) (omega (arith, c .before .loop .inv .upto)) (c .before .before .before .count-of .ensures) body s)
+returns c = taking-end _ _ _ _ _ _ _ (c .before .loop .inv) (omega (arith, c .before .loop .inv .upto, c .before .before .count-of .ensures)) refl
 
 pub take-fields-spec : {M : Type 1} → statement M
 take-fields-spec =
@@ -71,7 +66,6 @@ take-fields-spec =
     Inv-loop
     μ-loop
     count-of-requires
-    returns
     loop-holds
     width-of-requires
     sub-left
@@ -82,4 +76,4 @@ take-fields-spec =
     loop-less
     loop-again
     same-length
-    returns-2)
+    returns)

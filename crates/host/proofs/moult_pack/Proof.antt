@@ -22,13 +22,13 @@ same-length : tie.Need-same-length
 same-length c = search needs
 
 returns : tie.Need-returns
-returns c = record { answer = c .before .before .before .before .before .pack .result; promise = c .before .before .before .before .before .pack .ensures; is = ap (λ (y : Packed). fieldWriting (packedAs y)) (sym (c .before .answer .given .1)) }
+returns c = record { answer = c .before .before .before .before .before .before .pack .result; promise = c .before .before .before .before .before .before .pack .ensures; is = ap (λ (y : Packed). fieldWriting (packedAs y)) (sym (c .before .before .answer2 .given .1)) }
 
 same-length-2 : tie.Need-same-length-2
 same-length-2 c = search needs
 
 returns-2 : tie.Need-returns-2
-returns-2 c = record { answer = c .before .before .before .before .before .before .pack .result; promise = c .before .before .before .before .before .before .pack .ensures; is = ap (λ (y : Packed). fieldWriting (packedAs y)) (sym (c .before .before .answer2 .given .1)) }
+returns-2 c = record { answer = c .before .before .before .before .before .pack .result; promise = c .before .before .before .before .before .pack .ensures; is = ap (λ (y : Packed). fieldWriting (packedAs y)) (sym (c .before .answer .given .1)) }
 
 pub moult-pack-spec : {M : Type 1} → statement M
 moult-pack-spec =

@@ -19,10 +19,10 @@ cast-t6 : tie.Need-cast-t6
 cast-t6 c = search needs
 
 returns : tie.Need-returns
-returns c = ap (λ (y : PacketTicks). timeOf (packetReport y)) (sym (c .before .answer .given .1) ∙ c .before .before .before .packet-ticks .ensures .answer)
+returns c = ap (λ (y : PacketTicks). timeOf (packetReport y)) (sym (c .before .before .answer2 .given .1) ∙ c .before .before .before .before .packet-ticks .ensures .answer)
 
 returns-2 : tie.Need-returns-2
-returns-2 c = ap (λ (y : PacketTicks). timeOf (packetReport y)) (sym (c .before .before .answer2 .given .1) ∙ c .before .before .before .before .packet-ticks .ensures .answer)
+returns-2 c = ap (λ (y : PacketTicks). timeOf (packetReport y)) (sym (c .before .answer .given .1) ∙ c .before .before .before .packet-ticks .ensures .answer)
 
 pub moult-packet-ticks-spec : {M : Type 1} → statement M
 moult-packet-ticks-spec =

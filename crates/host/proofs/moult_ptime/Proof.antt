@@ -19,10 +19,10 @@ cast-t7 : tie.Need-cast-t7
 cast-t7 c = search needs
 
 returns : tie.Need-returns
-returns c = ap (λ (y : PacketMillis). timeOf (ptimeReport y)) (sym (c .before .answer .given .1) ∙ c .before .before .before .ptime .ensures)
+returns c = ap (λ (y : PacketMillis). timeOf (ptimeReport y)) (sym (c .before .before .answer2 .given .1) ∙ c .before .before .before .before .ptime .ensures)
 
 returns-2 : tie.Need-returns-2
-returns-2 c = ap (λ (y : PacketMillis). timeOf (ptimeReport y)) (sym (c .before .before .answer2 .given .1) ∙ c .before .before .before .before .ptime .ensures)
+returns-2 c = ap (λ (y : PacketMillis). timeOf (ptimeReport y)) (sym (c .before .answer .given .1) ∙ c .before .before .before .ptime .ensures)
 
 pub moult-ptime-spec : {M : Type 1} → statement M
 moult-ptime-spec =

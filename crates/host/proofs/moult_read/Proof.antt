@@ -22,7 +22,7 @@ same-length-2 : tie.Need-same-length-2
 same-length-2 c = search needs
 
 returns : tie.Need-returns
-returns c = host-reads _ _ _ _ _ _ (c .before .before .before .before .before .before .before .read .ensures) (c .before .answer .given .1)
+returns c = host-reads _ _ _ _ _ _ (c .before .before .before .before .before .before .before .before .read .ensures) (c .before .before .answer2 .given .1)
 
 same-length-3 : tie.Need-same-length-3
 same-length-3 c = search needs
@@ -31,7 +31,7 @@ same-length-4 : tie.Need-same-length-4
 same-length-4 c = search needs
 
 returns-2 : tie.Need-returns-2
-returns-2 c = host-reads _ _ _ _ _ _ (c .before .before .before .before .before .before .before .before .read .ensures) (c .before .before .answer2 .given .1)
+returns-2 c = host-reads _ _ _ _ _ _ (c .before .before .before .before .before .before .before .read .ensures) (c .before .answer .given .1)
 
 pub moult-read-spec : {M : Type 1} → statement M
 moult-read-spec =

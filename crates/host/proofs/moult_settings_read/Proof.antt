@@ -19,10 +19,10 @@ cast-t7 : tie.Need-cast-t7
 cast-t7 c = search needs
 
 returns : tie.Need-returns
-returns c = record { answer = c .before .before .before .read .result; promise = c .before .before .before .read .ensures; is = ap (λ (y : Parsed). parsedOf (reported y)) (sym (c .before .answer .given .1)) }
+returns c = record { answer = c .before .before .before .before .read .result; promise = c .before .before .before .before .read .ensures; is = ap (λ (y : Parsed). parsedOf (reported y)) (sym (c .before .before .answer2 .given .1)) }
 
 returns-2 : tie.Need-returns-2
-returns-2 c = record { answer = c .before .before .before .before .read .result; promise = c .before .before .before .before .read .ensures; is = ap (λ (y : Parsed). parsedOf (reported y)) (sym (c .before .before .answer2 .given .1)) }
+returns-2 c = record { answer = c .before .before .before .read .result; promise = c .before .before .before .read .ensures; is = ap (λ (y : Parsed). parsedOf (reported y)) (sym (c .before .answer .given .1)) }
 
 pub moult-settings-read-spec : {M : Type 1} → statement M
 moult-settings-read-spec =

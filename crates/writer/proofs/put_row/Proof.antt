@@ -23,6 +23,18 @@ same-length c = search needs
 returns : tie.Need-returns
 returns c = let z = c .before .before .before .before .before .before .before .before .before .before in row-put _ _ _ _ (layout-plain _ _ (z .pre .row) bps2400 (λ a b. omega arith) (λ l. l) (c .before .before .before .before .layout-2400 .ensures)) (c .before .before .put-frame .ensures)
 
+layout-600-requires : tie.Need-layout-600-requires
+layout-600-requires c κs = search needs
+
+put-frame-requires-2 : tie.Need-put-frame-requires-2
+put-frame-requires-2 c κs = let z = c .before .before .before .before .before .before .before .before in row-fits _ _ _ _ _ _ _ (layout-plain _ _ (z .pre .row) bps600 (λ a b. omega arith) (λ l. l) (c .before .layout-600 .ensures)) (z .pre)
+
+same-length-2 : tie.Need-same-length-2
+same-length-2 c = search needs
+
+returns-2 : tie.Need-returns-2
+returns-2 c = let z = c .before .before .before .before .before .before .before .before .before .before .before in row-put _ _ _ _ (layout-plain _ _ (z .pre .row) bps600 (λ a b. omega arith) (λ l. l) (c .before .before .before .before .layout-600 .ensures)) (c .before .before .put-frame2 .ensures)
+
 add-layout-tsvcis : tie.Need-add-layout-tsvcis
 add-layout-tsvcis c = search needs
 
@@ -35,26 +47,14 @@ shared-slice-read-layout-tsvcis c = search needs
 layout-tsvcis-requires : tie.Need-layout-tsvcis-requires
 layout-tsvcis-requires c κs = search needs
 
-put-frame-requires-2 : tie.Need-put-frame-requires-2
-put-frame-requires-2 c κs = let z = c .before .before .before .before .before .before .before .before .before in row-fits _ _ _ _ _ _ _ (layout-as _ _ (z .pre .row) tsvcis (λ a b. omega arith) (c .before .layout-tsvcis .ensures)) (z .pre)
-
-same-length-2 : tie.Need-same-length-2
-same-length-2 c = search needs
-
-returns-2 : tie.Need-returns-2
-returns-2 c = let z = c .before .before .before .before .before .before .before .before .before .before .before .before in row-put _ _ _ _ (layout-as _ _ (z .pre .row) tsvcis (λ a b. omega arith) (c .before .before .before .before .layout-tsvcis .ensures)) (c .before .before .put-frame2 .ensures)
-
-layout-600-requires : tie.Need-layout-600-requires
-layout-600-requires c κs = search needs
-
 put-frame-requires-3 : tie.Need-put-frame-requires-3
-put-frame-requires-3 c κs = let z = c .before .before .before .before .before .before .before .before .before in row-fits _ _ _ _ _ _ _ (layout-plain _ _ (z .pre .row) bps600 (λ a b. omega arith) (λ l. l) (c .before .layout-600 .ensures)) (z .pre)
+put-frame-requires-3 c κs = let z = c .before .before .before .before .before .before .before .before .before .before in row-fits _ _ _ _ _ _ _ (layout-as _ _ (z .pre .row) tsvcis (λ a b. omega arith) (c .before .layout-tsvcis .ensures)) (z .pre)
 
 same-length-3 : tie.Need-same-length-3
 same-length-3 c = search needs
 
 returns-3 : tie.Need-returns-3
-returns-3 c = let z = c .before .before .before .before .before .before .before .before .before .before .before .before in row-put _ _ _ _ (layout-plain _ _ (z .pre .row) bps600 (λ a b. omega arith) (λ l. l) (c .before .before .before .before .layout-600 .ensures)) (c .before .before .put-frame3 .ensures)
+returns-3 c = let z = c .before .before .before .before .before .before .before .before .before .before .before .before .before in row-put _ _ _ _ (layout-as _ _ (z .pre .row) tsvcis (λ a b. omega arith) (c .before .before .before .before .layout-tsvcis .ensures)) (c .before .before .put-frame3 .ensures)
 
 layout-1200-requires : tie.Need-layout-1200-requires
 layout-1200-requires c κs = search needs
@@ -90,14 +90,14 @@ put-row-spec =
     put-frame-requires
     same-length
     returns
+    layout-600-requires
+    put-frame-requires-2
+    same-length-2
+    returns-2
     add-layout-tsvcis
     mul-layout-tsvcis
     shared-slice-read-layout-tsvcis
     layout-tsvcis-requires
-    put-frame-requires-2
-    same-length-2
-    returns-2
-    layout-600-requires
     put-frame-requires-3
     same-length-3
     returns-3

@@ -30,12 +30,14 @@ pub fn on_packets(mix: &Mix) {
         same(|calls| calls.packet_ticks(&packet.payload));
         same(|calls| calls.augmentation(&packet.payload, packet.row));
         same(|calls| calls.frame_or(&packet.payload, packet.row, &[0; 7]));
-        same(|calls| calls.ptime(2400, packet.row));
     }
 }
 
 pub fn on_small(small: &Small) {
     for input in 0..INPUTS {
+        let (rate, frames) = small.timed[input];
+        same(|calls| calls.ptime(rate, frames));
+        same(|calls| calls.ptime(2400, input + 1));
         same(|calls| calls.settings_read(&small.texts[input]));
         same(|calls| {
             let mut out = [9; 31];

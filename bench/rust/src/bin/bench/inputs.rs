@@ -109,9 +109,10 @@ pub fn mixes() -> Vec<Mix> {
     ]
 }
 
-/// Setting texts, settings, bodies and fields of the modes 1 to 3 in turn.
+/// The three rates in turn with numbers of frames; setting texts and settings; bodies and fields of the modes 1 to 3 in turn.
 pub struct Small {
     pub name: &'static str,
+    pub timed: Vec<(u32, usize)>,
     pub texts: Vec<Vec<u8>>,
     pub settings: Vec<[u16; 4]>,
     pub bodies: Vec<Vec<u8>>,
@@ -147,6 +148,10 @@ fn text([first, second, third, tcmax]: [u16; 4]) -> Vec<u8> {
     (text + &format!(";tcmax={tcmax}")).into_bytes()
 }
 
+fn some_time(input: usize, prng: &mut Prng) -> (u32, usize) {
+    ([2400, 1200, 600][input % 3], 1 + prng.below(200))
+}
+
 fn some_fields(input: usize, prng: &mut Prng) -> Vec<u16> {
     let widths = WIDTHS[usize::from(mode(input)) - 1];
     widths
@@ -160,6 +165,9 @@ pub fn small_legal() -> Small {
     let settings: Vec<_> = (0..INPUTS).map(|_| some_settings(&mut prng)).collect();
     Small {
         name: "legal",
+        timed: (0..INPUTS)
+            .map(|input| some_time(input, &mut prng))
+            .collect(),
         texts: settings.iter().copied().map(text).collect(),
         settings,
         bodies: (0..INPUTS)
@@ -182,6 +190,11 @@ pub fn small_damaged() -> Small {
         let at = prng.below(4);
         small.settings[input][at] = 1000;
         small.bodies[input][6] |= 64;
+        match prng.below(3) {
+            0 => small.timed[input].0 = 1000,
+            1 => small.timed[input].1 = 0,
+            _ => small.timed[input].1 += 200,
+        }
         let at = prng.below(small.fields[input].len());
         small.fields[input][at] = 256;
     }

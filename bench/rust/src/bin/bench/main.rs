@@ -42,6 +42,10 @@ fn measure_packets(table: &Table, mix: &Mix) {
 
 fn measure_small(table: &Table, small: &Small) {
     let (mut fields, mut out) = ([0; 11], [0; 31]);
+    table.line("ptime", small.name, |calls: &Calls, i| {
+        let (rate, frames) = small.timed[i];
+        calls.ptime(rate, frames).time
+    });
     table.line("unpack", small.name, |calls: &Calls, i| {
         calls.unpack(mode(i), &small.bodies[i], &mut fields).octets
     });
@@ -73,7 +77,7 @@ fn main() {
     timing::print_setting();
     timing::print_head("ns a call");
     mixes.iter().for_each(|mix| measure_packets(&table, mix));
-    table.line("ptime", "1 to 64 frames", |calls: &Calls, i| {
+    table.line("ptime", "2400 bps", |calls: &Calls, i| {
         calls.ptime(2400, i + 1).time
     });
     small.iter().for_each(|small| measure_small(&table, small));

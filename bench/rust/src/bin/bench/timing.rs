@@ -10,10 +10,11 @@ const ROUNDS: usize = 30;
 const ROUND: Duration = Duration::from_millis(1);
 
 fn pass(work: &mut impl FnMut(&Calls, usize) -> usize, calls: &Calls, passes: usize) -> Duration {
+    let calls = black_box(calls);
     let start = Instant::now();
     for _ in 0..passes {
         for input in 0..INPUTS {
-            black_box(work(black_box(calls), input));
+            black_box(work(calls, input));
         }
     }
     start.elapsed()
