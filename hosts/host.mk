@@ -75,7 +75,7 @@ BENCH_CARGO := MOULT_PLACES=$(abspath $(HOST_OUT)/libplaces.a) CARGO_TARGET_DIR=
 bench: $(HOST_OUT)/libplaces.a $(HOST_OUT)/c_list
 	$(BENCH_CARGO) --release --bin list
 	$(BENCH_CARGO) --profile measured --bin bench
-	$(CARGO_OUT)/measured/bench target/bin/list $(HOST_OUT)/c_list $(CARGO_OUT)/release/list $(HOST_OUT)/listing "$(ONLY)"
+	$(CARGO_OUT)/measured/bench target/bin/list $(HOST_OUT)/c_list $(CARGO_OUT)/release/list $(HOST_OUT)/listings "$(ONLY)"
 
 # The fuzzer: the library beside a second C reading, by libFuzzer. Not part of the gate.
 CLANG ?= clang

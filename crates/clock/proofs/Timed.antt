@@ -3,7 +3,8 @@ use mathlib.Core.Path.{_≡_, refl, sym, ap, _∙_}
 use mathlib.Core.List.{List}
 use Prim.Native.Nat.{ℕ, _+_, _*_, _/_, _≤_, _<_}
 use native.Mathlib.Omega.{arith}
-use native.Mathlib.Decide.{ℕ-discrete}
+use native.Mathlib.Nat.{mul-le-mul}
+use native.Mathlib.Decide.{ℕ-discrete, decLt}
 use borrow.Author.Tests.{lt-ltb, le-ltb, eq-eqb, ne-eqb}
 use Rattle.refusal.specs.declared.Refusal.{Refusal}
 use Rattle.wire.specs.Frame.{ticksOfRate, Octets}
@@ -41,9 +42,24 @@ module _ (r n : ℕ) where
       go (yes e) = ptime-rate e
       go (no e) = simp (ne-eqb (ticksOfRate r) 0 e, le-ltb n 1 h, lt-ltb 200 n l)
 
-  pub ptime-right : (ticksOfRate r ≡ 0 → ⊥) → 1 ≤ n → n ≤ 200 → {t : ℕ} → t ≡ ticksOfRate r → settings.Lasts (record { 0 = (n * t + 7) / 8 }) ≡ ptimeOf r n
-  unfolding ptimeOf
-  ptime-right e h l q = rw q (simp (ne-eqb (ticksOfRate r) 0 e, le-ltb n 1 h, le-ltb 200 n l))
+  module _ (l : n ≤ 200) {t : ℕ} (q : t ≡ ticksOfRate r) where
+    -- the time is 0 where there are no frames or the rate is unknown, and only there
+    pub ptime-none : (n * t + 7) / 8 ≡ 0 → noPtime ≡ ptimeOf r n
+    ptime-none z = go (ℕ-discrete (ticksOfRate r) 0) (decLt n 1)
+      where
+        go : Dec (ticksOfRate r ≡ 0) → Dec (n < 1) → noPtime ≡ ptimeOf r n
+        go (yes e) _ = ptime-rate e
+        go (no e) (yes h) = ptime-few h
+        go (no e) (no h) = let a : 1 ≤ n = omega arith in let b : 1 ≤ t = omega arith in absurd (omega (arith, mul-le-mul a b))
+
+    pub ptime-some : ((n * t + 7) / 8 ≡ 0 → ⊥) → settings.Lasts (record { 0 = (n * t + 7) / 8 }) ≡ ptimeOf r n
+    unfolding ptimeOf
+    ptime-some z = go (ℕ-discrete (ticksOfRate r) 0) (decLt n 1)
+      where
+        go : Dec (ticksOfRate r ≡ 0) → Dec (n < 1) → settings.Lasts (record { 0 = (n * t + 7) / 8 }) ≡ ptimeOf r n
+        go (yes e) _ = absurd (z (rw (q ∙ e) (omega arith)))
+        go (no e) (yes h) = let a : n ≡ 0 = omega arith in absurd (z (rw a (omega arith)))
+        go (no e) (no h) = rw q (simp (ne-eqb (ticksOfRate r) 0 e, le-ltb n 1 (omega arith), le-ltb 200 n l))
 
 pub five-frames : ptimeOf 2400 5 ≡ settings.Lasts (record { 0 = 113 })
 unfolding ptimeOf ticksOfRate

@@ -49,13 +49,13 @@ fn unknown() -> PacketMillis
 pub fn ptime(rate: u32, frames: usize) -> PacketMillis
     ensures { λ r. ⌜ r ≡ ptimeOf rate frames ⌝ }
 {
-    if 1 <= frames {
-        if frames <= 200 {
-            let ticks = wire::ticks_of_rate(rate);
-            if 0 < ticks {
-                return PacketMillis::Lasts(Millis((frames * ticks as usize + 7) / 8));
-            }
-        }
+    if 200 < frames {
+        return unknown();
     }
-    unknown()
+    let millis = (frames * wire::ticks_of_rate(rate) as usize + 7) / 8;
+    // No frames, or an unknown rate: nothing else lasts 0.
+    if millis == 0 {
+        return unknown();
+    }
+    PacketMillis::Lasts(Millis(millis))
 }

@@ -1,40 +1,48 @@
+use mathlib.Core.Path.{_∙_}
 use native.Mathlib.Omega.{arith}
-use mathlib.Core.Logic.{⊎-elim}
-use mathlib.Core.Path.{sym, _∙_}
 use Rattle.wire.proofs.Rates.{product-most}
-use Rattle.clock.proofs.Timed.{ptime-rate, ptime-few, ptime-many, ptime-right}
+use Rattle.clock.proofs.Timed.{ptime-many, ptime-none, ptime-some}
 use borrow.Author.Needs.{needs}
 use Rattle.clock.proofs.ptime.Statement.{statement}
 use Rattle.clock.proofs.ptime.Tie as tie
 
-ticks-of-rate-requires : tie.Need-ticks-of-rate-requires
-ticks-of-rate-requires c κs = search needs
-
-cast-t7 : tie.Need-cast-t7
-cast-t7 c = search needs
-
-mul-t8 : tie.Need-mul-t8
-mul-t8 c = omega (arith, product-most _ _ _ (c .before .before .if2 .taken) (c .before .ticks-of-rate .ensures))
-
-add-t9 : tie.Need-add-t9
-add-t9 c = omega (arith, product-most _ _ _ (c .before .before .if2 .taken) (c .before .ticks-of-rate .ensures))
-
-returns : tie.Need-returns
-returns c =
-    ptime-right _ _ (λ z. omega (arith, c .if3 .taken, c .before .ticks-of-rate .ensures, z)) (c .before .before .before .if1 .taken)
-    (c .before .before .if2 .taken) (c .before .ticks-of-rate .ensures)
-
 unknown-requires : tie.Need-unknown-requires
 unknown-requires c κs = search needs
 
+returns : tie.Need-returns
+returns c = c .unknown .ensures ∙ ptime-many _ _ (omega arith) (c .before .if1 .taken)
+
+ticks-of-rate-requires : tie.Need-ticks-of-rate-requires
+ticks-of-rate-requires c κs = search needs
+
+cast-millis : tie.Need-cast-millis
+cast-millis c = search needs
+
+mul-millis : tie.Need-mul-millis
+mul-millis c = omega (arith, product-most _ _ _ (c .before .if1 .left) (c .ticks-of-rate .ensures))
+
+add-millis : tie.Need-add-millis
+add-millis c = omega (arith, product-most _ _ _ (c .before .if1 .left) (c .ticks-of-rate .ensures))
+
+unknown-requires-2 : tie.Need-unknown-requires-2
+unknown-requires-2 c κs = search needs
+
 returns-2 : tie.Need-returns-2
-returns-2 c =
-    c .unknown .ensures
-    ∙ ⊎-elim (λ w. ptime-rate _ _ (omega (arith, w .2 .ensures, w .3 .left)))
-    (⊎-elim (λ w. ptime-many _ _ (w .0 .taken) (w .1 .left)) (λ w. ptime-few _ _ (w .left)))
-    (c .before .if1 .came)
+returns-2 c = c .unknown2 .ensures ∙ ptime-none _ _ (c .before .before .before .if1 .left) (c .before .before .ticks-of-rate .ensures) (c .before .if2 .taken)
+
+returns-3 : tie.Need-returns-3
+returns-3 c = ptime-some _ _ (c .before .before .if1 .left) (c .before .ticks-of-rate .ensures) (c .if2 .left)
 
 pub ptime-spec : {M : Type 1} → statement M
 ptime-spec =
     tie.close
-    (tie.spec ticks-of-rate-requires cast-t7 mul-t8 add-t9 returns unknown-requires returns-2)
+    (tie.spec
+    unknown-requires
+    returns
+    ticks-of-rate-requires
+    cast-millis
+    mul-millis
+    add-millis
+    unknown-requires-2
+    returns-2
+    returns-3)

@@ -1,14 +1,13 @@
 //! The listing program beside a C and a Rust one: whole processes over one file.
 
 use crate::inputs::Mix;
-use crate::timing::{Table, print_head, print_line};
+use crate::timing::Table;
 use std::fs::{self, File};
-use std::path::Path;
+use std::path::{Path, PathBuf};
 use std::process::{Command, Stdio};
 use std::time::{Duration, Instant};
 
-const ROUNDS: usize = 9;
-const FILE_OCTETS: usize = 4_000_000;
+const FILE_OCTETS: usize = 20_000_000;
 
 /// The programs: rattle's, C's and Rust's.
 pub struct Programs<'a>(pub [&'a Path; 3]);
@@ -59,8 +58,15 @@ fn time(program: &Path, file: &Path) -> Duration {
     taken
 }
 
-fn measure(mix: &Mix, programs: &Programs, file: &Path) {
-    let payloads = write_file(mix, file);
+/// A file of a mix's payloads.
+struct Listed<'a> {
+    mix: &'a str,
+    file: PathBuf,
+    payloads: usize,
+}
+
+/// The programs must write the same before any is timed.
+fn agree(programs: &Programs, file: &Path) {
     let wanted = output(programs.0[0], file);
     assert!(
         programs
@@ -69,30 +75,39 @@ fn measure(mix: &Mix, programs: &Programs, file: &Path) {
             .all(|program| output(program, file) == wanted),
         "listings differ"
     );
-    let mut best = [Duration::MAX; 3];
-    for _ in 0..ROUNDS {
-        for (program, best) in programs.0.iter().zip(&mut best) {
-            *best = time(program, file).min(*best);
-        }
-    }
-    let ns = best.map(|time| time.as_nanos() as f64 / payloads as f64);
-    print_line("listing", mix.name, ns);
 }
 
-pub fn run(table: &Table, mixes: &[Mix], programs: &Programs, file: &Path) {
-    println!();
-    if !programs.0[0].exists() {
-        println!(
-            "listing: not measured, {} is not there",
-            programs.0[0].display()
-        );
-        return;
+fn listed<'a>(mix: &'a Mix, programs: &Programs, file: PathBuf) -> Listed<'a> {
+    let payloads = write_file(mix, &file);
+    agree(programs, &file);
+    Listed {
+        mix: mix.name,
+        file,
+        payloads,
     }
+}
+
+/// Measures the listings of the mixes, whose files go to the folder.
+pub fn measure(table: &mut Table, mixes: &[Mix], programs: &Programs, folder: &Path) {
+    fs::create_dir_all(folder).expect("the scratch folder can be made");
+    let files: Vec<Listed> = mixes
+        .iter()
+        .filter(|mix| table.has("listing", mix.name))
+        .enumerate()
+        .map(|(i, mix)| listed(mix, programs, folder.join(i.to_string())))
+        .collect();
+    table.sweep(|table| {
+        for listed in &files {
+            table.programs("listing", listed.mix, listed.payloads, |which| {
+                time(programs.0[which], &listed.file)
+            });
+        }
+    });
+}
+
+pub fn print(table: &Table) {
     println!(
-        "listing: whole runs over {FILE_OCTETS} octets, file in the page cache, output to /dev/null"
+        "\nlisting: whole runs over {FILE_OCTETS} octets, file in the page cache, output to /dev/null"
     );
-    print_head("ns a payload");
-    for mix in mixes.iter().filter(|mix| table.has("listing", mix.name)) {
-        measure(mix, programs, file);
-    }
+    table.print("ns a payload");
 }

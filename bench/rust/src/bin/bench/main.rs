@@ -11,7 +11,7 @@ use inputs::{Mix, Small, mode};
 use std::path::PathBuf;
 use timing::Table;
 
-fn measure_packets(table: &Table, mix: &Mix) {
+fn measure_packets(table: &mut Table, mix: &Mix) {
     let (mut rows, mut bodies, mut out) = ([0; 400], [0; 1400], [0; 1400]);
     let packets = &mix.packets;
     table.line("read", mix.name, |calls: &Calls, i| {
@@ -40,7 +40,7 @@ fn measure_packets(table: &Table, mix: &Mix) {
     });
 }
 
-fn measure_small(table: &Table, small: &Small) {
+fn measure_small(table: &mut Table, small: &Small) {
     let (mut fields, mut out) = ([0; 11], [0; 31]);
     table.line("ptime", small.name, |calls: &Calls, i| {
         let (rate, frames) = small.timed[i];
@@ -64,7 +64,7 @@ fn main() {
     let paths: Vec<PathBuf> = std::env::args_os().skip(1).map(PathBuf::from).collect();
     let [rattle_list, c_list, rust_list, scratch, only @ ..] = &paths[..] else {
         eprintln!(
-            "usage: bench RATTLE-LIST C-LIST RUST-LIST SCRATCH-FILE [WORD] (use `make bench`)"
+            "usage: bench RATTLE-LIST C-LIST RUST-LIST SCRATCH-FOLDER [WORD] (use `make bench`)"
         );
         std::process::exit(2);
     };
@@ -73,14 +73,29 @@ fn main() {
     mixes.iter().for_each(agree::on_packets);
     small.iter().for_each(agree::on_small);
     let word = only.first().and_then(|word| word.to_str()).unwrap_or("");
-    let table = Table { word };
-    timing::print_setting();
-    timing::print_head("ns a call");
-    mixes.iter().for_each(|mix| measure_packets(&table, mix));
-    table.line("ptime", "2400 bps", |calls: &Calls, i| {
-        calls.ptime(2400, i + 1).time
+    let mut table = Table::new(word);
+    table.sweep(|table| {
+        for mix in &mixes {
+            measure_packets(table, mix);
+        }
+        table.line("ptime", "2400 bps", |calls: &Calls, i| {
+            calls.ptime(2400, i + 1).time
+        });
+        for small in &small {
+            measure_small(table, small);
+        }
     });
-    small.iter().for_each(|small| measure_small(&table, small));
+    timing::print_setting();
+    table.print("ns a call");
+    if !rattle_list.exists() {
+        println!(
+            "\nlisting: not measured, {} is not there",
+            rattle_list.display()
+        );
+        return;
+    }
     let programs = lists::Programs([rattle_list, c_list, rust_list]);
-    lists::run(&table, &mixes, &programs, scratch);
+    let mut listings = Table::new(word);
+    lists::measure(&mut listings, &mixes, &programs, scratch);
+    lists::print(&listings);
 }

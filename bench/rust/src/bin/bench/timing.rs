@@ -5,7 +5,10 @@ use crate::inputs::INPUTS;
 use std::hint::black_box;
 use std::time::{Duration, Instant};
 
-const ROUNDS: usize = 30;
+/// All lines are measured so many times over, so that what disturbs the machine for some seconds spoils no line.
+const SWEEPS: usize = 6;
+/// Rounds of each line in a sweep.
+const ROUNDS: usize = 5;
 /// About how long one implementation runs in one round: short, so that many rounds are undisturbed.
 const ROUND: Duration = Duration::from_millis(1);
 
@@ -28,62 +31,127 @@ fn passes_of_a_round(work: &mut impl FnMut(&Calls, usize) -> usize, calls: &Call
     passes
 }
 
-pub fn print_line(what: &str, mix: &str, [rattle, c, rust]: [f64; 3]) {
-    println!(
-        "{what:<15} {mix:<22} {rattle:>9.1} {c:>9.1} {rust:>9.1} {:>7.2} {:>7.2}",
-        c / rattle,
-        rust / rattle
-    );
-}
-
-pub fn print_head(unit: &str) {
-    println!(
-        "{:<15} {:<22} {:>9} {:>9} {:>9} {:>7} {:>7}",
-        unit, "mix", "rattle", "C", "Rust", "of C", "of Rust"
-    );
-}
-
 /// The geometric mean, so that a ratio of means is the mean of the ratios.
 fn mean(times: [Duration; PLACES]) -> f64 {
     let logs: f64 = times.iter().map(|time| (time.as_nanos() as f64).ln()).sum();
     (logs / PLACES as f64).exp()
 }
 
-/// The lines to measure: those whose name and mix have the word.
-pub struct Table<'a> {
-    pub word: &'a str,
+/// The best times of the three implementations at each place, in rounds of so many calls.
+struct Line {
+    name: String,
+    calls: usize,
+    best: [[Duration; PLACES]; 3],
 }
 
-impl Table<'_> {
+impl Line {
+    fn keep(&mut self, which: usize, place: usize, time: Duration) {
+        let best = &mut self.best[which][place];
+        *best = time.min(*best);
+    }
+
+    fn print(&self) {
+        let [rattle, c, rust] = self.best.map(|times| mean(times) / self.calls as f64);
+        println!(
+            "{} {rattle:>9.1} {c:>9.1} {rust:>9.1} {:>7.2} {:>7.2}",
+            self.name,
+            c / rattle,
+            rust / rattle
+        );
+    }
+}
+
+/// The lines that are measured: those whose name and mix have the word. Each sweep measures them in the same order.
+pub struct Table<'a> {
+    word: &'a str,
+    lines: Vec<Line>,
+    next: usize,
+}
+
+impl<'a> Table<'a> {
+    pub fn new(word: &'a str) -> Self {
+        Table {
+            word,
+            lines: vec![],
+            next: 0,
+        }
+    }
+
     pub fn has(&self, what: &str, mix: &str) -> bool {
         format!("{what} {mix}").contains(self.word)
     }
 
-    /// Measures and prints one line: `work` does the call on input number 0 to 63.
-    pub fn line(&self, what: &str, mix: &str, mut work: impl FnMut(&Calls, usize) -> usize) {
+    /// Measures all lines over and over.
+    pub fn sweep(&mut self, mut lines: impl FnMut(&mut Self)) {
+        for _ in 0..SWEEPS {
+            self.next = 0;
+            lines(self);
+        }
+    }
+
+    /// The sweep's next line; in the first sweep a new one, of so many calls a round.
+    fn next_line(&mut self, what: &str, mix: &str, calls: impl FnOnce() -> usize) -> &mut Line {
+        if self.next == self.lines.len() {
+            self.lines.push(Line {
+                name: format!("{what:<15} {mix:<22}"),
+                calls: calls(),
+                best: [[Duration::MAX; PLACES]; 3],
+            });
+        }
+        self.next += 1;
+        &mut self.lines[self.next - 1]
+    }
+
+    /// Measures one line: `work` does the call on input number 0 to 63.
+    pub fn line(&mut self, what: &str, mix: &str, mut work: impl FnMut(&Calls, usize) -> usize) {
         if !self.has(what, mix) {
             return;
         }
         let all = calls::implementations();
-        let passes = passes_of_a_round(&mut work, &all[0][0]);
-        let mut best = [[Duration::MAX; PLACES]; 3];
+        let line = self.next_line(what, mix, || {
+            passes_of_a_round(&mut work, &all[0][0]) * INPUTS
+        });
+        let passes = line.calls / INPUTS;
         for round in 0..ROUNDS {
             for place in 0..PLACES {
                 for turn in 0..all.len() {
                     let which = (round + place + turn) % all.len();
-                    let time = pass(&mut work, &all[which][place], passes);
-                    best[which][place] = time.min(best[which][place]);
+                    line.keep(which, place, pass(&mut work, &all[which][place], passes));
                 }
             }
         }
-        let calls = (passes * INPUTS) as f64;
-        print_line(what, mix, best.map(|times| mean(times) / calls));
+    }
+
+    /// Measures one line of programs, each of which stands at one place: `run` takes the time of one run, of so many calls.
+    pub fn programs(
+        &mut self,
+        what: &str,
+        mix: &str,
+        calls: usize,
+        run: impl Fn(usize) -> Duration,
+    ) {
+        let line = self.next_line(what, mix, || calls);
+        for _ in 0..ROUNDS {
+            for which in 0..line.best.len() {
+                let time = run(which);
+                (0..PLACES).for_each(|place| line.keep(which, place, time));
+            }
+        }
+    }
+
+    pub fn print(&self, unit: &str) {
+        println!(
+            "{:<15} {:<22} {:>9} {:>9} {:>9} {:>7} {:>7}",
+            unit, "mix", "rattle", "C", "Rust", "of C", "of Rust"
+        );
+        self.lines.iter().for_each(Line::print);
     }
 }
 
 pub fn print_setting() {
     println!(
-        "mean of {PLACES} places in memory, at each the best of {ROUNDS} rounds, the three in turn; one thread"
+        "mean of {PLACES} places in memory, at each the best of {} rounds, the three in turn; one thread",
+        SWEEPS * ROUNDS
     );
     println!(
         "buffers warm: {INPUTS} inputs a mix and one set of lent buffers, used again and again"
