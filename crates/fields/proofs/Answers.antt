@@ -10,7 +10,7 @@ use lib.ListN.{length, getD, drop}
 use Rattle.fields.specs.declared.Unpacked.the-variants.{Fields, Refused}
 use Rattle.fields.specs.declared.Packed.the-variants.{Octets, Refused as NotPacked}
 use Rattle.fields.specs.Bits.{spelled}
-use Rattle.fields.specs.Table.{fieldsOf, fieldBits, bodyOf, consecutive, total}
+use Rattle.fields.specs.Table.{fieldBits, bodyOf, consecutive, total}
 use Rattle.fields.specs.Modes.{isMode, widthsOf, countOf, tableOf, firstLarge}
 use Rattle.fields.specs.Answers.{refused, accepted, unpacking, packing, filled, Unpacks, Packs}
 use Rattle.fields.specs.Words.{wordOf, octets, turn, unpackedInto, Spells, Gathers}

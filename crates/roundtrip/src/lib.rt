@@ -2,8 +2,6 @@
 // promise is that they always do.
 ghost use mathlib.Core.Path.{_≡_};
 ghost use mathlib.Core.Bool.{true};
-ghost use Prim.Native.Nat.{_≤_, _<_};
-ghost use lib.ListN.{length};
 ghost use Rattle.roundtrip.specs.Trips.{Same, Describes, ReadAgain, ReadBack, WrittenAgain, WriteBack};
 use payload::Reading;
 use payload::Writing;
