@@ -59,23 +59,47 @@ $(HOST_OUT)/libreference.a: $(REFERENCE_O)
 	rm -f $@
 	ar rcs $@ $^
 
-$(HOST_OUT)/c_list: bench/c/list.c $(HOST_OUT)/libreference.a
-	gcc $(REFERENCE_FLAGS) -D_GNU_SOURCE $^ -o $@
-
 $(HOST_OUT)/safe_rust.o: $(wildcard bench/rust/src/*.rs) | $(HOST_OUT)
 	rustc --edition 2024 --crate-name safe --crate-type lib --emit obj=$@ -C opt-level=3 -C codegen-units=1 -C panic=abort bench/rust/src/lib.rs
 
 $(HOST_OUT)/libplaces.a: bench/places.sh $(MOULT_LIB) $(HOST_OUT)/libreference.a $(HOST_OUT)/safe_rust.o FORCE
 	bench/places.sh $@ moult=$(MOULT_LIB) c=$(HOST_OUT)/libreference.a rust=$(HOST_OUT)/safe_rust.o
 
-# ONLY=WORD measures the lines that have the word alone.
-BENCH_CARGO := MOULT_PLACES=$(abspath $(HOST_OUT)/libplaces.a) CARGO_TARGET_DIR=$(CARGO_OUT) \
-	cargo build --offline --quiet --manifest-path bench/rust/Cargo.toml
+# The listing programs stand at eight places too: each is linked with another number of octets before all of its functions, which
+# the linker keeps though nothing calls them.
+LISTS := $(HOST_OUT)/lists
+LIST_PLACES := 0 1 2 3 4 5 6 7
+LIST_PROGRAMS := $(foreach name,rattle c rust,$(LIST_PLACES:%=$(LISTS)/$(name)_%))
+RATTLE_KIT ?= $(abspath $(dir $(realpath $(shell command -v rt)))..)
+BENCH_CARGO := MOULT_PLACES=$(abspath $(HOST_OUT)/libplaces.a) CARGO_TARGET_DIR=$(CARGO_OUT) cargo
+BENCH_CARGO_FLAGS := --offline --quiet --manifest-path bench/rust/Cargo.toml
 
-bench: $(HOST_OUT)/libplaces.a $(HOST_OUT)/c_list
-	$(BENCH_CARGO) --release --bin list
-	$(BENCH_CARGO) --profile measured --bin bench
-	$(CARGO_OUT)/measured/bench target/bin/list $(HOST_OUT)/c_list $(CARGO_OUT)/release/list $(HOST_OUT)/listings "$(ONLY)"
+$(LISTS):
+	mkdir -p $@
+
+$(LISTS)/before_%.o: | $(LISTS)
+	printf '.section .text.unlikely,"axR",@progbits\n.skip %d\n.section .note.GNU-stack,"",@progbits\n' $$((16 + 592 * $*)) | \
+		gcc -c -x assembler - -o $@
+
+.SECONDARY: $(LIST_PLACES:%=$(LISTS)/before_%.o)
+
+target/obj/list.o: target/bin/list ;
+
+$(LISTS)/rattle_%: target/obj/list.o $(LISTS)/before_%.o
+	gcc $^ $(RATTLE_KIT)/lib/libos_c.a -o $@
+
+$(LISTS)/c_%: bench/c/list.c $(HOST_OUT)/libreference.a $(LISTS)/before_%.o
+	gcc $(REFERENCE_FLAGS) -D_GNU_SOURCE $^ -o $@
+
+# rustc's own linker would put those octets last.
+$(LISTS)/rust_%: $(LISTS)/before_%.o $(wildcard bench/rust/src/*.rs) bench/rust/src/bin/list.rs | $(HOST_OUT)/libplaces.a
+	$(BENCH_CARGO) rustc $(BENCH_CARGO_FLAGS) --release --bin list -- -C linker-features=-lld -C link-arg=$(abspath $<)
+	cp $(CARGO_OUT)/release/list $@
+
+# ONLY=WORD measures the lines that have the word alone.
+bench: $(HOST_OUT)/libplaces.a $(LIST_PROGRAMS)
+	$(BENCH_CARGO) build $(BENCH_CARGO_FLAGS) --profile measured --bin bench
+	$(CARGO_OUT)/measured/bench $(LISTS) $(HOST_OUT)/listings "$(ONLY)"
 
 # The fuzzer: the library beside a second C reading, by libFuzzer. Not part of the gate.
 CLANG ?= clang

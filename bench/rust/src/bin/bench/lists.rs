@@ -1,7 +1,8 @@
 //! The listing program beside a C and a Rust one: whole processes over one file.
 
+use crate::calls::PLACES;
 use crate::inputs::Mix;
-use crate::timing::Table;
+use crate::timing::{self, Table};
 use std::fs::{self, File};
 use std::path::{Path, PathBuf};
 use std::process::{Command, Stdio};
@@ -9,8 +10,18 @@ use std::time::{Duration, Instant};
 
 const FILE_OCTETS: usize = 20_000_000;
 
-/// The programs: rattle's, C's and Rust's.
-pub struct Programs<'a>(pub [&'a Path; 3]);
+/// The programs rattle's, C's and Rust's, each linked at several places.
+pub struct Programs([[PathBuf; PLACES]; 3]);
+
+impl Programs {
+    /// Those of a folder, which are called NAME_PLACE.
+    pub fn of(folder: &Path) -> Self {
+        Programs(
+            ["rattle", "c", "rust"]
+                .map(|name| std::array::from_fn(|place| folder.join(format!("{name}_{place}")))),
+        )
+    }
+}
 
 fn length_prefix(length: usize) -> Vec<u8> {
     if length < 128 {
@@ -67,11 +78,12 @@ struct Listed<'a> {
 
 /// The programs must write the same before any is timed.
 fn agree(programs: &Programs, file: &Path) {
-    let wanted = output(programs.0[0], file);
+    let wanted = output(&programs.0[0][0], file);
     assert!(
         programs
             .0
             .iter()
+            .flatten()
             .all(|program| output(program, file) == wanted),
         "listings differ"
     );
@@ -98,16 +110,14 @@ pub fn measure(table: &mut Table, mixes: &[Mix], programs: &Programs, folder: &P
         .collect();
     table.sweep(|table| {
         for listed in &files {
-            table.programs("listing", listed.mix, listed.payloads, |which| {
-                time(programs.0[which], &listed.file)
+            table.programs("listing", listed.mix, listed.payloads, |which, place| {
+                time(&programs.0[which][place], &listed.file)
             });
         }
     });
 }
 
 pub fn print(table: &Table) {
-    println!(
-        "\nlisting: whole runs over {FILE_OCTETS} octets, file in the page cache, output to /dev/null"
-    );
+    timing::print_setting_of_programs(FILE_OCTETS);
     table.print("ns a payload");
 }

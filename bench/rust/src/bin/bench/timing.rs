@@ -2,6 +2,7 @@
 
 use crate::calls::{self, Calls, PLACES};
 use crate::inputs::INPUTS;
+use crate::lent::{Lent, Memory};
 use std::hint::black_box;
 use std::time::{Duration, Instant};
 
@@ -12,20 +13,25 @@ const ROUNDS: usize = 5;
 /// About how long one implementation runs in one round: short, so that many rounds are undisturbed.
 const ROUND: Duration = Duration::from_millis(1);
 
-fn pass(work: &mut impl FnMut(&Calls, usize) -> usize, calls: &Calls, passes: usize) -> Duration {
+/// Does the call on input number 0 to 63, with the buffers lent.
+trait Work: Fn(&Calls, &mut Lent, usize) -> usize {}
+
+impl<T: Fn(&Calls, &mut Lent, usize) -> usize> Work for T {}
+
+fn pass(work: &impl Work, calls: &Calls, lent: &mut Lent, passes: usize) -> Duration {
     let calls = black_box(calls);
     let start = Instant::now();
     for _ in 0..passes {
         for input in 0..INPUTS {
-            black_box(work(calls, input));
+            black_box(work(calls, lent, input));
         }
     }
     start.elapsed()
 }
 
-fn passes_of_a_round(work: &mut impl FnMut(&Calls, usize) -> usize, calls: &Calls) -> usize {
+fn passes_of_a_round(work: &impl Work, calls: &Calls, lent: &mut Lent) -> usize {
     let mut passes = 1;
-    while pass(work, calls, passes) < ROUND / 2 {
+    while pass(work, calls, lent, passes) < ROUND / 2 {
         passes *= 2;
     }
     passes
@@ -102,39 +108,47 @@ impl<'a> Table<'a> {
         &mut self.lines[self.next - 1]
     }
 
-    /// Measures one line: `work` does the call on input number 0 to 63.
-    pub fn line(&mut self, what: &str, mix: &str, mut work: impl FnMut(&Calls, usize) -> usize) {
+    /// Measures one line: `work` does the call on input number 0 to 63, with the buffers lent.
+    pub fn line(
+        &mut self,
+        what: &str,
+        mix: &str,
+        work: impl Fn(&Calls, &mut Lent, usize) -> usize,
+    ) {
         if !self.has(what, mix) {
             return;
         }
         let all = calls::implementations();
+        let mut memory = Memory::new();
         let line = self.next_line(what, mix, || {
-            passes_of_a_round(&mut work, &all[0][0]) * INPUTS
+            passes_of_a_round(&work, &all[0][0], &mut memory.at(0)) * INPUTS
         });
         let passes = line.calls / INPUTS;
         for round in 0..ROUNDS {
             for place in 0..PLACES {
+                let mut lent = memory.at(place);
                 for turn in 0..all.len() {
                     let which = (round + place + turn) % all.len();
-                    line.keep(which, place, pass(&mut work, &all[which][place], passes));
+                    let time = pass(&work, &all[which][place], &mut lent, passes);
+                    line.keep(which, place, time);
                 }
             }
         }
     }
 
-    /// Measures one line of programs, each of which stands at one place: `run` takes the time of one run, of so many calls.
+    /// Measures one line of programs, which run longer than a call: one round a sweep. `run` takes the time of one run, of so many
+    /// calls, of an implementation at a place.
     pub fn programs(
         &mut self,
         what: &str,
         mix: &str,
         calls: usize,
-        run: impl Fn(usize) -> Duration,
+        run: impl Fn(usize, usize) -> Duration,
     ) {
         let line = self.next_line(what, mix, || calls);
-        for _ in 0..ROUNDS {
+        for place in 0..PLACES {
             for which in 0..line.best.len() {
-                let time = run(which);
-                (0..PLACES).for_each(|place| line.keep(which, place, time));
+                line.keep(which, place, run(which, place));
             }
         }
     }
@@ -148,13 +162,23 @@ impl<'a> Table<'a> {
     }
 }
 
-pub fn print_setting() {
+fn print_rounds(rounds: usize) {
     println!(
-        "mean of {PLACES} places in memory, at each the best of {} rounds, the three in turn; one thread",
-        SWEEPS * ROUNDS
+        "mean of {PLACES} places in memory, at each the best of {rounds} rounds, the three in turn"
     );
+}
+
+pub fn print_setting() {
+    print_rounds(SWEEPS * ROUNDS);
     println!(
-        "buffers warm: {INPUTS} inputs a mix and one set of lent buffers, used again and again"
+        "one thread; buffers warm: {INPUTS} inputs a mix and one set of lent buffers a place, used again and again"
     );
     println!("of C, of Rust: their time divided by rattle's, so above 1 rattle is the faster\n");
+}
+
+pub fn print_setting_of_programs(octets: usize) {
+    println!(
+        "\nlisting: whole runs over {octets} octets, file in the page cache, output to /dev/null;"
+    );
+    print_rounds(SWEEPS);
 }
