@@ -9,7 +9,7 @@ use lib.ListN.{length, set, length-append, length-set}
 use borrow.Author.Tests.{lt-ltb, le-ltb}
 use Rattle.payload.specs.Filling.{put}
 use Rattle.leb128.proofs.Steps.{below-or}
-use Rattle.listing.specs.Line.{digits, decimal, pair}
+use Rattle.listing.specs.Line.{digits, decimal, pair, four}
 use Rattle.listing.proofs.Puts.{put-one, put-put}
 
 pub digits-one : (k n : ℕ) → n < 10 → digits (suc k) n ≡ (48 + n) ∷ []
@@ -66,9 +66,29 @@ decimal-pairs n h l =
     ∙ append-assoc (decimal (n / 10 / 10)) ((48 + n / 10 % 10) ∷ []) ((48 + n % 10) ∷ [])
     ∙ rw (front, tens, ones))
 
--- a number's digits but the last two are at most 18
-pub decimal-front : (n : ℕ) → 100 ≤ n → n < 18446744073709551616 → length (decimal (n / 100)) ≤ 18
-decimal-front n h l = omega (arith, ap length (decimal-pairs n h l), length-append (decimal (n / 100)) (pair (n % 100)), decimal-long n)
+-- a number below 100 has at most two digits
+pub decimal-short : (n : ℕ) → n < 100 → length (decimal n) ≤ 2
+decimal-short n l = go (below-or n 10)
+  where
+    go : (n < 10) ⊎ (10 ≤ n) → length (decimal n) ≤ 2
+    go (inl h) = rw (decimal-one n h) (omega arith)
+    go (inr h) = rw (← (decimal-pair n h l)) (omega arith)
+
+-- the last four digits
+pub decimal-fours : (n : ℕ) → 10000 ≤ n → n < 18446744073709551616 → decimal (n / 10000) ++ four (n % 10000) ≡ decimal n
+decimal-fours n h l =
+    let front : n / 100 / 100 ≡ n / 10000 = omega arith in
+    let high : n / 100 % 100 ≡ n % 10000 / 100 = omega arith in
+    let low : n % 100 ≡ n % 10000 % 100 = omega arith in
+    sym
+    (sym (decimal-pairs n (omega arith) l)
+    ∙ ap (λ (d : List ℕ). d ++ pair (n % 100)) (sym (decimal-pairs (n / 100) (omega arith) (omega arith)))
+    ∙ append-assoc (decimal (n / 100 / 100)) (pair (n / 100 % 100)) (pair (n % 100))
+    ∙ rw (front, high, low))
+
+-- a number's digits but the last four are at most 16
+pub decimal-front : (n : ℕ) → 10000 ≤ n → n < 18446744073709551616 → length (decimal (n / 10000)) ≤ 16
+decimal-front n h l = omega (arith, ap length (decimal-fours n h l), length-append (decimal (n / 10000)) (four (n % 10000)), decimal-long n)
 
 -- ---- read back
 
@@ -98,7 +118,7 @@ decimal-value n l = digits-value 19 n (omega arith)
 
 -- ---- stored
 
-pub put-last : (o : List ℕ) (a n : ℕ) → n < 10 → a + 20 ≤ length o
+pub put-last : (o : List ℕ) (a n : ℕ) → n < 10 → a + 2 ≤ length o
     → (set o a (48 + n) ≡ put o a (decimal n)) × (a + 1 ≡ a + length (decimal n))
 put-last o a n h l = rw (decimal-one n h) (put-one o a (48 + n) (omega arith), refl)
 

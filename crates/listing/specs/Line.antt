@@ -20,6 +20,10 @@ decimal n = digits 20 n
 abbrev pub pair : ℕ → List ℕ
 pair n = (48 + n / 10) ∷ (48 + n % 10) ∷ []
 
+-- the four digits of a number below 10,000
+abbrev pub four : ℕ → List ℕ
+four n = pair (n / 100) ++ pair (n % 100)
+
 -- ` ok `
 abbrev pub okWord : List ℕ
 okWord = 32 ∷ 111 ∷ 107 ∷ 32 ∷ []

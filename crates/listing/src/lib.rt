@@ -4,7 +4,7 @@ ghost use mathlib.Core.Path.{_≡_};
 ghost use mathlib.Core.List.{_++_};
 ghost use Prim.Native.Nat.{_+_, _≤_, _<_, min};
 ghost use lib.ListN.{length, take};
-ghost use Rattle.listing.specs.Line.{pair, decimal, row, payloadLine, closing};
+ghost use Rattle.listing.specs.Line.{pair, four, decimal, row, payloadLine, closing};
 ghost use Rattle.listing.specs.Listing.{following};
 ghost use Rattle.listing.specs.Entries.{wholeAt, payloadAt};
 ghost use Rattle.listing.specs.Carried.{Puts, Goes, Lists, Closes, Ready, positionOf, placeOf, endsAt, fresh};
@@ -108,21 +108,49 @@ fn put_pair(out: &mut [u8], at: usize, n: u64) -> usize
     at + 2
 }
 
-// Puts a number's decimal digits at an index of out, and answers the index behind them. Two digits a call: of the listing's
-// time this is the larger part.
-fn put_decimal(out: &mut [u8], at: usize, n: u64) -> usize
-    requires { ⌜ at + 20 ≤ length (now out) ⌝ }
+// Puts the four digits of a number below 10,000 at an index of out, and answers the index behind them.
+fn put_four(out: &mut [u8], at: usize, n: u64) -> usize
+    requires { ⌜ (at + 4 ≤ length (now out)) × (n < 10000) ⌝ }
+    ensures { λ r. ⌜ Puts (now (out .entry)) at (four n) (now (out .exit)) r ⌝ }
+{
+    let end = put_pair(out, at, n / 100);
+    put_pair(out, end, n % 100)
+}
+
+// Puts the digits of a number below 100, no leading zero, at an index of out, and answers the index behind them.
+fn put_below_100(out: &mut [u8], at: usize, n: u64) -> usize
+    requires { ⌜ (at + 2 ≤ length (now out)) × (n < 100) ⌝ }
     ensures { λ r. ⌜ Puts (now (out .entry)) at (decimal n) (now (out .exit)) r ⌝ }
 {
     if n < 10 {
         out[at] = 48 + n as u8;
         return at + 1;
     }
+    put_pair(out, at, n)
+}
+
+// The same of a number below 10,000.
+fn put_below_10000(out: &mut [u8], at: usize, n: u64) -> usize
+    requires { ⌜ (at + 4 ≤ length (now out)) × (n < 10000) ⌝ }
+    ensures { λ r. ⌜ Puts (now (out .entry)) at (decimal n) (now (out .exit)) r ⌝ }
+{
     if n < 100 {
-        return put_pair(out, at, n);
+        return put_below_100(out, at, n);
     }
-    let end = put_decimal(out, at, n / 100);
+    let end = put_below_100(out, at, n / 100);
     put_pair(out, end, n % 100)
+}
+
+// The same of any number. Four digits a call: of a short payload's listing this is the larger part.
+fn put_decimal(out: &mut [u8], at: usize, n: u64) -> usize
+    requires { ⌜ at + 20 ≤ length (now out) ⌝ }
+    ensures { λ r. ⌜ Puts (now (out .entry)) at (decimal n) (now (out .exit)) r ⌝ }
+{
+    if n < 10000 {
+        return put_below_10000(out, at, n);
+    }
+    let end = put_decimal(out, at, n / 10000);
+    put_four(out, end, n % 10000)
 }
 
 fn wide(x: usize) -> u64
