@@ -1,5 +1,6 @@
 -- A line is stored field by field.
 use mathlib.Core.Path.{_≡_, sym, ap, _∙_}
+use mathlib.Core.Bool.{Bool, true, false}
 use mathlib.Core.List.{List, [], _∷_, _++_, append-assoc}
 use Prim.Native.Nat.{ℕ, _+_, _≤_, _<_}
 use native.Mathlib.Omega.{arith}
@@ -13,7 +14,7 @@ use Rattle.payload.specs.declared.Extent.{Extent}
 use Rattle.payload.specs.declared.Walked.{Walked}
 use Rattle.payload.specs.declared.Walked.the-variants.{Whole, Refused}
 use Rattle.payload.proofs.Seen.{went, went-lasts, stopped}
-use Rattle.listing.specs.Line.{decimal, okWord, refusedWord, row, lineOf, payloadLine, closing}
+use Rattle.listing.specs.Line.{decimal, okWord, refusedWord, verdict, row, lineOf, payloadLine, closing}
 use Rattle.listing.specs.Listing.{following}
 use Rattle.listing.specs.Carried.{Puts}
 use Rattle.listing.proofs.Puts.{puts-then, puts-same, puts-room}
@@ -27,34 +28,49 @@ module _ (o : List ℕ) (a : ℕ) (w : List ℕ) (n : ℕ) (room : a + (length w
 field-long : (w : List ℕ) (n m : ℕ) → length w ≤ m → length (w ++ decimal n) ≤ m + 20
 field-long w n m h = omega (arith, length-append w (decimal n), decimal-long n)
 
-module _ (o : List ℕ) (a n : ℕ) (w : List ℕ) (x y : ℕ) (room : a + 71 ≤ length o) (short : length w ≤ 9) {e : List ℕ} {r : ℕ} (p : Puts o a (decimal n) e r) where
-  pub row-room : r + (length w + 20) ≤ length e
-  row-room = puts-room o a (decimal n) 20 (length w + 20) p (decimal-long n) (omega arith)
+verdict-short : (b : Bool) → length (verdict b) ≤ 9
+verdict-short true = omega arith
+verdict-short false = omega arith
 
-  module _ {f : List ℕ} {s : ℕ} (q : Puts e r (w ++ decimal x) f s) where
-    two : Puts o a (decimal n ++ (w ++ decimal x)) f s
-    two = puts-then o a (decimal n) (w ++ decimal x) p q (omega (arith, decimal-long n, field-long w x 9 short))
+-- a payload line, part by part
+module _ (o : List ℕ) (a n : ℕ) (b : Bool) (x y : ℕ) (room : a + 71 ≤ length o) {e : List ℕ} {r : ℕ} (p : Puts o a (decimal n) e r) where
+  behind : r + 29 ≤ length e
+  behind = puts-room o a (decimal n) 20 29 p (decimal-long n) (omega arith)
 
-    two-long : length (decimal n ++ (w ++ decimal x)) ≤ 49
-    two-long = omega (arith, length-append (decimal n) (w ++ decimal x), decimal-long n, field-long w x 9 short)
+  pub row-room : r + 9 ≤ length e
+  row-room = omega (arith, behind)
 
-    pub row-room-2 : s + 21 ≤ length f
-    row-room-2 = puts-room o a (decimal n ++ (w ++ decimal x)) 49 21 two two-long (omega arith)
+  module _ {d : List ℕ} {k : ℕ} (v : Puts e r (verdict b) d k) where
+    pub row-room-2 : k + 20 ≤ length d
+    row-room-2 = puts-room e r (verdict b) 9 20 v (verdict-short b) (omega (arith, behind))
 
-    module _ {g : List ℕ} {t : ℕ} (u : Puts f s ((32 ∷ []) ++ decimal y) g t) where
-      three : Puts o a ((decimal n ++ (w ++ decimal x)) ++ ((32 ∷ []) ++ decimal y)) g t
-      three = puts-then o a (decimal n ++ (w ++ decimal x)) ((32 ∷ []) ++ decimal y) two u (omega (arith, two-long, field-long (32 ∷ []) y 1 (omega arith)))
+    module _ {f : List ℕ} {s : ℕ} (u : Puts d k (decimal x) f s) where
+      two : Puts o a (decimal n ++ (verdict b ++ decimal x)) f s
+      two =
+          puts-then o a (decimal n) (verdict b ++ decimal x) p
+          (field-put e r (verdict b) x (omega (arith, behind, verdict-short b)) v u)
+          (omega (arith, decimal-long n, field-long (verdict b) x 9 (verdict-short b)))
 
-      three-long : length ((decimal n ++ (w ++ decimal x)) ++ ((32 ∷ []) ++ decimal y)) ≤ 70
-      three-long = omega (arith, length-append (decimal n ++ (w ++ decimal x)) ((32 ∷ []) ++ decimal y), two-long, field-long (32 ∷ []) y 1 (omega arith))
+      two-long : length (decimal n ++ (verdict b ++ decimal x)) ≤ 49
+      two-long = omega (arith, length-append (decimal n) (verdict b ++ decimal x), decimal-long n, field-long (verdict b) x 9 (verdict-short b))
 
-      pub row-room-3 : t + 1 ≤ length g
-      row-room-3 = puts-room o a ((decimal n ++ (w ++ decimal x)) ++ ((32 ∷ []) ++ decimal y)) 70 1 three three-long (omega arith)
+      pub row-room-3 : s + 21 ≤ length f
+      row-room-3 = puts-room o a (decimal n ++ (verdict b ++ decimal x)) 49 21 two two-long (omega arith)
 
-      pub row-put : {h : List ℕ} {v : ℕ} → Puts g t (10 ∷ []) h v → Puts o a (row n w x y) h v
-      row-put z =
-          puts-same o a (append-assoc (decimal n ++ (w ++ decimal x)) ((32 ∷ []) ++ decimal y) (10 ∷ []) ∙ append-assoc (decimal n) (w ++ decimal x) (32 ∷ (decimal y ++ (10 ∷ []))) ∙ ap (λ (l : List ℕ). decimal n ++ l) (append-assoc w (decimal x) (32 ∷ (decimal y ++ (10 ∷ [])))))
-          (puts-then o a ((decimal n ++ (w ++ decimal x)) ++ ((32 ∷ []) ++ decimal y)) (10 ∷ []) three z (omega (arith, three-long)))
+      module _ {g : List ℕ} {t : ℕ} (w : Puts f s ((32 ∷ []) ++ decimal y) g t) where
+        three : Puts o a ((decimal n ++ (verdict b ++ decimal x)) ++ ((32 ∷ []) ++ decimal y)) g t
+        three = puts-then o a (decimal n ++ (verdict b ++ decimal x)) ((32 ∷ []) ++ decimal y) two w (omega (arith, two-long, field-long (32 ∷ []) y 1 (omega arith)))
+
+        three-long : length ((decimal n ++ (verdict b ++ decimal x)) ++ ((32 ∷ []) ++ decimal y)) ≤ 70
+        three-long = omega (arith, length-append (decimal n ++ (verdict b ++ decimal x)) ((32 ∷ []) ++ decimal y), two-long, field-long (32 ∷ []) y 1 (omega arith))
+
+        pub row-room-4 : t + 1 ≤ length g
+        row-room-4 = puts-room o a ((decimal n ++ (verdict b ++ decimal x)) ++ ((32 ∷ []) ++ decimal y)) 70 1 three three-long (omega arith)
+
+        pub row-put : {h : List ℕ} {z : ℕ} → Puts g t (10 ∷ []) h z → Puts o a (row n (verdict b) x y) h z
+        row-put q =
+            puts-same o a (append-assoc (decimal n ++ (verdict b ++ decimal x)) ((32 ∷ []) ++ decimal y) (10 ∷ []) ∙ append-assoc (decimal n) (verdict b ++ decimal x) (32 ∷ (decimal y ++ (10 ∷ []))) ∙ ap (λ (l : List ℕ). decimal n ++ l) (append-assoc (verdict b) (decimal x) (32 ∷ (decimal y ++ (10 ∷ [])))))
+            (puts-then o a ((decimal n ++ (verdict b ++ decimal x)) ++ ((32 ∷ []) ++ decimal y)) (10 ∷ []) three q (omega (arith, three-long)))
 
 -- a last line
 module _ (o w : List ℕ) (n : ℕ) (room : 25 ≤ length o) (short : length w ≤ 4) {e : List ℕ} {r : ℕ} (p : Puts o 0 (w ++ decimal n) e r) where

@@ -1,5 +1,5 @@
 -- Document 01, "The listing": the lines, as octets of ASCII.
-use mathlib.Core.Bool.{cond}
+use mathlib.Core.Bool.{Bool, cond}
 use mathlib.Core.List.{List, [], _∷_, _++_}
 use Prim.Native.Nat.{ℕ, zero, suc, _+_, _/_, _%_}
 use lib.Dec.{ltb}
@@ -31,6 +31,10 @@ okWord = 32 ∷ 111 ∷ 107 ∷ 32 ∷ []
 -- ` refused `
 abbrev pub refusedWord : List ℕ
 refusedWord = 32 ∷ 114 ∷ 101 ∷ 102 ∷ 117 ∷ 115 ∷ 101 ∷ 100 ∷ 32 ∷ []
+
+-- the word of a payload that is whole, or not
+abbrev pub verdict : Bool → List ℕ
+verdict b = cond b okWord refusedWord
 
 -- `end `
 abbrev pub endWord : List ℕ

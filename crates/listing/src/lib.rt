@@ -4,7 +4,7 @@ ghost use mathlib.Core.Path.{_≡_};
 ghost use mathlib.Core.List.{_++_};
 ghost use Prim.Native.Nat.{_+_, _≤_, _<_, min};
 ghost use lib.ListN.{length, take};
-ghost use Rattle.listing.specs.Line.{pair, four, decimal, row, payloadLine, closing};
+ghost use Rattle.listing.specs.Line.{pair, four, decimal, verdict, row, payloadLine, closing};
 ghost use Rattle.listing.specs.Listing.{following};
 ghost use Rattle.listing.specs.Entries.{wholeAt, payloadAt};
 ghost use Rattle.listing.specs.Carried.{Puts, Goes, Lists, Closes, Ready, positionOf, placeOf, endsAt, fresh};
@@ -168,13 +168,26 @@ fn put_field(out: &mut [u8], at: usize, word: &[u8], n: u64) -> usize
     put_decimal(out, number, n)
 }
 
-// Puts a payload line of a number, a word and two numbers at an index of out, and answers the index behind it.
-fn put_row(out: &mut [u8], at: usize, n: u64, word: &[u8], a: u64, b: u64) -> usize
-    requires { ⌜ (at + 71 ≤ length (now out)) × (length (now word) ≤ 9) ⌝ }
-    ensures { λ r. ⌜ Puts (now (out .entry)) at (row n (now (word .entry)) a b) (now (out .exit)) r ⌝ }
+// Puts the word of a payload line at an index of out, and answers the index behind it. Two calls, so that the compiler knows the
+// length of each word.
+fn put_verdict(out: &mut [u8], at: usize, is_whole: bool) -> usize
+    requires { ⌜ at + 9 ≤ length (now out) ⌝ }
+    ensures { λ r. ⌜ Puts (now (out .entry)) at (verdict «is_whole») (now (out .exit)) r ⌝ }
 {
-    let first = put_decimal(out, at, n);
-    let second = put_field(out, first, word, a);
+    if is_whole {
+        return put_word(out, at, b" ok ");
+    }
+    put_word(out, at, b" refused ")
+}
+
+// Puts a payload line of a number, its word and two numbers at an index of out, and answers the index behind it.
+fn put_row(out: &mut [u8], at: usize, n: u64, is_whole: bool, a: u64, b: u64) -> usize
+    requires { ⌜ at + 71 ≤ length (now out) ⌝ }
+    ensures { λ r. ⌜ Puts (now (out .entry)) at (row n (verdict «is_whole») a b) (now (out .exit)) r ⌝ }
+{
+    let word = put_decimal(out, at, n);
+    let first = put_verdict(out, word, is_whole);
+    let second = put_decimal(out, first, a);
     let end = put_field(out, second, b" ", b);
     put_word(out, end, b"\n")
 }
@@ -192,7 +205,7 @@ fn put_line(out: &mut [u8], at: usize, n: u64, payload: &[u8]) -> usize
                 out,
                 at,
                 n,
-                b" ok ",
+                true,
                 wide(extent.frames),
                 (extent.coders * each) as u64,
             )
@@ -201,7 +214,7 @@ fn put_line(out: &mut [u8], at: usize, n: u64, payload: &[u8]) -> usize
             out,
             at,
             n,
-            b" refused ",
+            false,
             refusal.number as u64,
             wide(refusal.place),
         ),

@@ -10,11 +10,11 @@ use Rattle.listing.proofs.put_line.Statement.{statement}
 use Rattle.listing.proofs.put_line.Tie as tie
 
 -- the product is small
-few : (c : tie.After-struct-known) → c .before .before .before .before .before .before .before .walked .given .0 .0 .coders * c .before .before .before .before .ticks-of-rate .result ≤ 144000
+few : (c : tie.After-struct-known) → c .before .before .before .before .before .before .walked .given .0 .0 .coders * c .before .before .before .ticks-of-rate .result ≤ 144000
 few c =
     product-most _ _ _
-    (went-few _ (λ i. c .before .before .before .before .before .before .before .before .before .before .shared-slice-known .given i .fits) (c .before .before .before .before .before .before .before .before .before .walk .ensures .answer) _ (c .before .before .before .before .before .before .before .walked .given .1))
-    (c .before .before .before .before .ticks-of-rate .ensures)
+    (went-few _ (λ i. c .before .before .before .before .before .before .before .before .before .shared-slice-known .given i .fits) (c .before .before .before .before .before .before .before .before .walk .ensures .answer) _ (c .before .before .before .before .before .before .walked .given .1))
+    (c .before .before .before .ticks-of-rate .ensures)
 
 walk-requires : tie.Need-walk-requires
 walk-requires c κs = search needs
@@ -27,9 +27,6 @@ rate-of-requires c κs = search needs
 
 ticks-of-rate-requires : tie.Need-ticks-of-rate-requires
 ticks-of-rate-requires c κs = search needs
-
-slice-aggregate-put-row : tie.Need-slice-aggregate-put-row
-slice-aggregate-put-row c = search needs
 
 wide-requires : tie.Need-wide-requires
 wide-requires c κs = search needs
@@ -46,9 +43,6 @@ put-row-requires c κs = search needs
 enum-known-walked-2 : tie.Need-enum-known-walked-2
 enum-known-walked-2 c = search needs
 
-slice-aggregate-put-row-2 : tie.Need-slice-aggregate-put-row-2
-slice-aggregate-put-row-2 c = search needs
-
 cast-put-row-2 : tie.Need-cast-put-row-2
 cast-put-row-2 c = search needs
 
@@ -63,17 +57,17 @@ same-length c = search needs
 
 returns : tie.Need-returns
 returns c =
-    let z = c .before .before .before .before .before .before .before .before .before .before .before .before .before .before .before in
-    line-whole (z .args .out .now) (z .args .at) (z .args .n) (z .args .payload .now) (λ i. c .before .before .before .before .before .before .before .before .before .before .before .before .before .shared-slice-known .given i .fits)
-    (c .before .before .before .before .before .before .before .before .before .before .before .before .walk .ensures .answer) _ (c .before .before .before .before .before .before .before .before .before .before .walked .given .1) (c .before .before .before .before .wide .ensures)
-    (ap (λ (t : ℕ). c .before .before .before .before .before .before .before .before .before .before .walked .given .0 .0 .coders * t) (c .before .before .before .before .before .before .before .ticks-of-rate .ensures ∙ ap ticksOfRate (c .before .before .before .before .before .before .before .before .rate-of .ensures)))
+    let z = c .before .before .before .before .before .before .before .before .before .before .before .before .before .before in
+    line-whole (z .args .out .now) (z .args .at) (z .args .n) (z .args .payload .now) (λ i. c .before .before .before .before .before .before .before .before .before .before .before .before .shared-slice-known .given i .fits)
+    (c .before .before .before .before .before .before .before .before .before .before .before .walk .ensures .answer) _ (c .before .before .before .before .before .before .before .before .before .walked .given .1) (c .before .before .before .before .wide .ensures)
+    (ap (λ (t : ℕ). c .before .before .before .before .before .before .before .before .before .walked .given .0 .0 .coders * t) (c .before .before .before .before .before .before .ticks-of-rate .ensures ∙ ap ticksOfRate (c .before .before .before .before .before .before .before .rate-of .ensures)))
     (c .before .before .put-row .ensures)
 
 same-length-2 : tie.Need-same-length-2
 same-length-2 c = search needs
 
 returns-2 : tie.Need-returns-2
-returns-2 c = let z = c .before .before .before .before .before .before .before .before .before .before .before .before .before in line-refused (z .args .out .now) (z .args .at) (z .args .n) (z .args .payload .now) (λ i. c .before .before .before .before .before .before .before .before .before .before .before .shared-slice-known .given i .fits) (c .before .before .before .before .before .before .before .before .before .before .walk .ensures .answer) _ (c .before .before .before .before .before .before .before .before .walked2 .given .1) refl (c .before .before .before .wide2 .ensures) (c .before .before .put-row2 .ensures)
+returns-2 c = let z = c .before .before .before .before .before .before .before .before .before .before .before .before in line-refused (z .args .out .now) (z .args .at) (z .args .n) (z .args .payload .now) (λ i. c .before .before .before .before .before .before .before .before .before .before .shared-slice-known .given i .fits) (c .before .before .before .before .before .before .before .before .before .walk .ensures .answer) _ (c .before .before .before .before .before .before .before .walked2 .given .1) refl (c .before .before .before .wide2 .ensures) (c .before .before .put-row2 .ensures)
 
 pub put-line-spec : {M : Type 1} → statement M
 put-line-spec =
@@ -83,13 +77,11 @@ put-line-spec =
     enum-known-walked
     rate-of-requires
     ticks-of-rate-requires
-    slice-aggregate-put-row
     wide-requires
     mul-put-row
     cast-put-row
     put-row-requires
     enum-known-walked-2
-    slice-aggregate-put-row-2
     cast-put-row-2
     wide-requires-2
     put-row-requires-2
