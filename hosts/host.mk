@@ -70,7 +70,7 @@ $(HOST_OUT)/libplaces.a: bench/places.sh $(MOULT_LIB) $(HOST_OUT)/libreference.a
 LISTS := $(HOST_OUT)/lists
 LIST_PLACES := 0 1 2 3 4 5 6 7
 LIST_PROGRAMS := $(foreach name,rattle c rust,$(LIST_PLACES:%=$(LISTS)/$(name)_%))
-RATTLE_KIT ?= $(abspath $(dir $(realpath $(shell command -v rt)))..)
+RATTLE_HOME ?= $(abspath $(dir $(realpath $(shell command -v rt)))..)
 BENCH_CARGO := MOULT_PLACES=$(abspath $(HOST_OUT)/libplaces.a) CARGO_TARGET_DIR=$(CARGO_OUT) cargo
 BENCH_CARGO_FLAGS := --offline --quiet --manifest-path bench/rust/Cargo.toml
 
@@ -86,7 +86,7 @@ $(LISTS)/before_%.o: | $(LISTS)
 target/obj/list.o: target/bin/list ;
 
 $(LISTS)/rattle_%: target/obj/list.o $(LISTS)/before_%.o
-	gcc $^ $(RATTLE_KIT)/lib/libos_c.a -o $@
+	gcc $^ $(RATTLE_HOME)/lib/libos_c.a -o $@
 
 $(LISTS)/c_%: bench/c/list.c $(HOST_OUT)/libreference.a $(LISTS)/before_%.o
 	gcc $(REFERENCE_FLAGS) -D_GNU_SOURCE $^ -o $@

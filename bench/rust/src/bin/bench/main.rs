@@ -85,6 +85,8 @@ fn main() {
     timing::print_setting();
     table.print("ns a call");
     let mut listings = Table::new(word);
-    lists::measure(&mut listings, &mixes, &Programs::of(lists), scratch);
-    lists::print(&listings);
+    if mixes.iter().any(|mix| listings.has("listing", mix.name)) {
+        lists::measure(&mut listings, &mixes, &Programs::of(lists), scratch);
+        lists::print(&listings);
+    }
 }
