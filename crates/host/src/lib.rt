@@ -110,10 +110,10 @@ pub extern "C" fn moult_write(rows: &[u16], bodies: &[u8], out: &mut [u8]) -> Mo
 {
     let answer = payload::write(rows, bodies, out);
     match answer {
-        Writing::Written(n) => MoultWriting {
+        Writing::Written(written) => MoultWriting {
             number: 0,
             place: 0,
-            octets: n,
+            octets: written,
         },
         Writing::Refused(refusal) => {
             return MoultWriting {
@@ -278,10 +278,10 @@ pub extern "C" fn moult_settings_write(
         out,
     );
     match answer {
-        Written::Octets(n) => MoultWriting {
+        Written::Octets(length) => MoultWriting {
             number: 0,
             place: 0,
-            octets: n,
+            octets: length,
         },
         Written::Refused(refusal) => {
             return MoultWriting {
@@ -300,10 +300,10 @@ pub extern "C" fn moult_unpack(mode: u8, body: &[u8], fields: &mut [u16]) -> Mou
 {
     let answer = fields::unpack(mode, body, fields);
     match answer {
-        Unpacked::Fields(n) => MoultWriting {
+        Unpacked::Fields(unpacked) => MoultWriting {
             number: 0,
             place: 0,
-            octets: n,
+            octets: unpacked,
         },
         Unpacked::Refused(refusal) => {
             return MoultWriting {
@@ -322,10 +322,10 @@ pub extern "C" fn moult_pack(mode: u8, fields: &[u16], out: &mut [u8]) -> MoultW
 {
     let answer = fields::pack(mode, fields, out);
     match answer {
-        Packed::Octets(n) => MoultWriting {
+        Packed::Octets(packed) => MoultWriting {
             number: 0,
             place: 0,
-            octets: n,
+            octets: packed,
         },
         Packed::Refused(refusal) => {
             return MoultWriting {
