@@ -24,30 +24,38 @@ use Rattle.writer.specs.Answers.{answerOf}
 use Rattle.writer.specs.Promise.{Writes}
 use Rattle.writer.specs.declared.Writing.{Writing as Answer}
 use Rattle.writer.specs.declared.Writing.the-variants.{Written, Refused}
-use Rattle.writer.proofs.Trips.{writes-legal, writes-short, written-legal}
-use Rattle.roundtrip.specs.Trips.{Describes, ReadAgain, ReadBack, WrittenAgain, WriteBack, rowsBack, bodiesBack, outBack}
+use Rattle.writer.proofs.Trips.{writes-legal, writes-short, writes-described, written-legal}
+use Rattle.roundtrip.specs.Trips.{Describes, ReadAgain, ReadBack, WrittenAgain, WriteBack, rowsBack, bodiesBack, outBack, ReadReturns, WriteReturns}
 
 -- ---- the two round trips
-
--- reading what was written gives the rows and bodies that were given, with room for them
-pub read-written : (ns bs r b : List ℕ) (room : ℕ) (fs : List Frame) → Octets bs → writeOf ns bs room ≡ wrote fs → Room fs r b
-    → (readInto (octetsOf fs) r b .rows ≡ ns ++ drop (2 * length fs) r) × (readInto (octetsOf fs) r b .bodies ≡ bs ++ drop (length (bodiesOf fs)) b)
-read-written ns bs r b room fs o e h =
-    let d = written-legal ns bs room fs o e .0 in
-    let q = hands-out (octetsOf fs) r b fs (d .legal) refl h in (
-      ap (λ (x : Outcome). x .rows) q ∙ ap (λ (y : List ℕ). y ++ drop (2 * length fs) r) (sym (d .rows)),
-      ap (λ (x : Outcome). x .bodies) q ∙ ap (λ (y : List ℕ). y ++ drop (length (bodiesOf fs)) b) (sym (d .bodies)),
-    )
-
--- writing what was read from an accepted payload gives that payload, with room for it
-pub write-read : (p : List ℕ) (fs : List Frame) (room : ℕ) → Legal fs → octetsOf fs ≡ p → length p ≤ room → writeOf (rowsOf fs) (bodiesOf fs) room ≡ wrote fs
-write-read p fs room l e h = writes-legal fs room l (omega (arith, ap length e))
-
--- ---- reading back
 
 length-rows : (fs : List Frame) → length (rowsOf fs) ≡ 2 * length fs
 length-rows [] = refl
 length-rows (f ∷ fs) = omega (arith, length-rows fs)
+
+-- what the writer and then the reader leave are the rows and bodies that were given
+pub read-returns : (ns bs out r b r′ b′ : List ℕ) → r′ ≡ rowsBack (writeOf ns bs (length out)) r b → b′ ≡ bodiesBack (writeOf ns bs (length out)) r b
+    → ReadReturns ns bs out r b r′ b′
+read-returns ns bs out r b r′ b′ er eb fs d hp h =
+    let w = writes-described ns bs fs (length out) d hp in
+    let q = hands-out (octetsOf fs) r b fs (d .legal) refl h in (
+      er ∙ ap (λ (o : Writing). rowsBack o r b) w ∙ ap (λ (x : Outcome). x .rows) q
+        ∙ ap (λ (k : ℕ). rowsOf fs ++ drop k r) (sym (length-rows fs)) ∙ ap (λ (l : List ℕ). l ++ drop (length l) r) (sym (d .rows)),
+      eb ∙ ap (λ (o : Writing). bodiesBack o r b) w ∙ ap (λ (x : Outcome). x .bodies) q
+        ∙ ap (λ (l : List ℕ). l ++ drop (length l) b) (sym (d .bodies)),
+    )
+
+-- what the reader and then the writer leave is the payload
+pub write-returns : (p r b out r′ b′ left : List ℕ) → r′ ≡ readInto p r b .rows → b′ ≡ readInto p r b .bodies → left ≡ outBack (readInto p r b .answer) r′ b′ out
+    → WriteReturns p r b out left
+write-returns p r b out r′ b′ left er eb el fs l e h hp =
+    let q = hands-out p r b fs l e h in
+    let rows : take (2 * length fs) r′ ≡ rowsOf fs = ap (take (2 * length fs)) (er ∙ ap (λ (x : Outcome). x .rows) q) ∙ take-at (rowsOf fs) (drop (2 * length fs) r) (2 * length fs) (length-rows fs) in
+    let bodies : take (length (bodiesOf fs)) b′ ≡ bodiesOf fs = ap (take (length (bodiesOf fs))) (eb ∙ ap (λ (x : Outcome). x .bodies) q) ∙ take-at (bodiesOf fs) (drop (length (bodiesOf fs)) b) (length (bodiesOf fs)) refl in
+    let w = writes-described (take (2 * length fs) r′) (take (length (bodiesOf fs)) b′) fs (length out) (record { legal = l; rows = rows; bodies = bodies }) (omega (arith, ap length e)) in
+    el ∙ ap (λ (x : Outcome). outBack (x .answer) r′ b′ out) q ∙ ap (λ (o : Writing). outOf o out) w ∙ ap (λ (y : List ℕ). y ++ drop (length y) out) e
+
+-- ---- reading back
 
 -- a reading that handed out k rows and m octets into r′ and b′, which rows ns and bodies bs describe
 pub record Back (k m : ℕ) (ns bs r′ b′ : List ℕ) : Type 0 where
@@ -151,11 +159,16 @@ module _ (ns bs out : List ℕ) (w : Answer) (left : List ℕ) (h : Writes ns bs
       let d = written-legal ns bs (length out) (x .fs) o (x .is) .0 in
       record { fs = x .fs; legal = d .legal; gives = sym (x .first); rows = d .rows; bodies = d .bodies }
 
+  -- the promise of `read_back`, from what the buffers are
+  back : (r b : List ℕ) {y : Bool} {r′ b′ : List ℕ} → y ≡ true → r′ ≡ rowsBack (writeOf ns bs (length out)) r b → b′ ≡ bodiesBack (writeOf ns bs (length out)) r b
+      → ReadBack ns bs out r b y left r′ b′
+  back r b e er eb = record { agrees = e; returns = read-returns ns bs out r b _ _ er eb; leaves = h .leaves; rows = er; bodies = eb }
+
   pub back-refused : (x : Refusal) → w ≡ Refused x → (r b : List ℕ) → ReadBack ns bs out r b true left r b
   back-refused x e r b = go (writeOf ns bs (length out)) refl
     where
       go : (o : Writing) → writeOf ns bs (length out) ≡ o → ReadBack ns bs out r b true left r b
-      go (refuses m place) q = record { agrees = refl; leaves = h .leaves; rows = ap (λ (y : Writing). rowsBack y r b) (sym q); bodies = ap (λ (y : Writing). bodiesBack y r b) (sym q) }
+      go (refuses m place) q = back r b refl (ap (λ (y : Writing). rowsBack y r b) (sym q)) (ap (λ (y : Writing). bodiesBack y r b) (sym q))
       go (wrote fs) q =
           let c : Written (length (octetsOf fs)) ≡ Refused x = sym (h .answer ∙ ap answerOf q) ∙ e in
           absurd (let z : _≡_ {A = ℕ} 0 1 = cc in omega arith)
@@ -163,12 +176,9 @@ module _ (ns bs out : List ℕ) (w : Answer) (left : List ℕ) (h : Writes ns bs
   pub back-written : (n : ℕ) → w ≡ Written n → (r b : List ℕ) {y : Bool} {r′ b′ : List ℕ} → ReadAgain (take n left) r b y r′ b′ → ReadBack ns bs out r b y left r′ b′
   back-written n e r b g =
       let x = wrote-it n e in
-      record {
-        agrees = g .agrees;
-        leaves = h .leaves;
-        rows = g .rows ∙ ap (λ (p : List ℕ). readInto p r b .rows) (x .first) ∙ ap (λ (o : Writing). rowsBack o r b) (sym (x .is));
-        bodies = g .bodies ∙ ap (λ (p : List ℕ). readInto p r b .bodies) (x .first) ∙ ap (λ (o : Writing). bodiesBack o r b) (sym (x .is));
-      }
+      back r b (g .agrees)
+      (g .rows ∙ ap (λ (p : List ℕ). readInto p r b .rows) (x .first) ∙ ap (λ (o : Writing). rowsBack o r b) (sym (x .is)))
+      (g .bodies ∙ ap (λ (p : List ℕ). readInto p r b .bodies) (x .first) ∙ ap (λ (o : Writing). bodiesBack o r b) (sym (x .is)))
 
   module _ (p : List ℕ) (d : Describes p ns bs) where
     described : (room : ℕ) {o : Writing} → writeOf (rowsOf (d .fs)) (bodiesOf (d .fs)) room ≡ o → writeOf ns bs room ≡ o
@@ -213,13 +223,14 @@ module _ (ns bs out : List ℕ) (w : Answer) (left : List ℕ) (h : Writes ns bs
 -- ---- writing back what was read
 
 module _ (p r b out : List ℕ) (a : Reading) (r′ b′ : List ℕ) (h : Reads p r b a r′ b′) where
+  -- the promise of `write_back`, from what the buffers are
+  trip : {x : Bool} {left : List ℕ} → x ≡ true → left ≡ outBack a r′ b′ out → WriteBack p r b out x r′ b′ left
+  trip {x} {left} e el =
+      let q : left ≡ outBack (readInto p r b .answer) r′ b′ out = el ∙ ap (λ (y : Reading). outBack y r′ b′ out) (h .answer) in
+      record { agrees = e; returns = write-returns p r b out r′ b′ left (h .rows) (h .bodies) q; rows = h .rows; bodies = h .bodies; leaves = q }
+
   pub trip-refused : (x : Refusal) → a ≡ reading.Refused x → WriteBack p r b out true r′ b′ out
-  trip-refused x e = record { agrees = refl; rows = h .rows; bodies = h .bodies; leaves = ap (λ (y : Reading). outBack y r′ b′ out) (sym e ∙ h .answer) }
+  trip-refused x e = trip refl (ap (λ (y : Reading). outBack y r′ b′ out) (sym e))
 
   pub trip-read : (k m : ℕ) → a ≡ reading.Read k m → {x : Bool} {left : List ℕ} → WrittenAgain (take (2 * k) r′) (take m b′) out x left → WriteBack p r b out x r′ b′ left
-  trip-read k m e g = record {
-    agrees = g .agrees;
-    rows = h .rows;
-    bodies = h .bodies;
-    leaves = g .leaves ∙ ap (λ (y : Reading). outBack y r′ b′ out) (sym e ∙ h .answer);
-  }
+  trip-read k m e g = trip (g .agrees) (g .leaves ∙ ap (λ (y : Reading). outBack y r′ b′ out) (sym e))
