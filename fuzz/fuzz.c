@@ -110,8 +110,8 @@ static void compare_times(const uint8_t *payload, size_t n, const second_frame *
     size_t ticks = 0;
     for (int i = 0; i < count; i++)
         ticks += second_ticks(frames[i].kind);
-    moult_time t = moult_packet_ticks(payload, n);
-    MUST(t.number == number && t.place == (number ? place : 0) && t.time == ticks);
+    moult_ticks t = moult_packet_ticks(payload, n);
+    MUST(t.number == number && t.place == (number ? place : 0) && t.ticks == ticks);
     MUST(moult_count(payload, n) == (number ? -(int32_t)number : count));
 }
 

@@ -74,12 +74,19 @@ typedef struct {
     size_t octets;
 } moult_writing;
 
-/* A time: ticks of 1/8000 second (moult_packet_ticks) or milliseconds (moult_ptime). */
+/* A packet's time, in ticks of 1/8000 second. */
 typedef struct {
     uint32_t number;
     size_t place;
-    size_t time;
-} moult_time;
+    size_t ticks;
+} moult_ticks;
+
+/* A ptime, in milliseconds. */
+typedef struct {
+    uint32_t number;
+    size_t place;
+    size_t millis;
+} moult_millis;
 
 /* A part of the payload or, where stand_in is 1, of the stand-in: `length` octets from `start` on. */
 typedef struct {
@@ -126,11 +133,11 @@ moult_writing moult_write(const uint16_t *rows, size_t rows_n, const uint8_t *bo
 
 /* The ticks of 1/8000 second that a payload's coder frames last; comfort noise adds none.
    Refuses as moult_read does, 1 to 8. */
-moult_time moult_packet_ticks(const uint8_t *payload, size_t n);
+moult_ticks moult_packet_ticks(const uint8_t *payload, size_t n);
 
 /* The ptime in milliseconds, rounded up, of 1 to 200 frames at rate 2400, 1200 or 600.
    Refuses 12 with place 0 for any other rate or number of frames. */
-moult_time moult_ptime(uint32_t rate, size_t frames);
+moult_millis moult_ptime(uint32_t rate, size_t frames);
 
 /* Where the augmentation of a row (from 0) stands in the payload; start 0 and length 0 if the
    payload is refused, the row is missing or its frame is not TSVCIS. stand_in is 0. */

@@ -162,21 +162,21 @@ moult_reading c_read(const uint8_t *payload, size_t n, uint16_t *rows, size_t ro
     return r;
 }
 
-moult_time c_packet_ticks(const uint8_t *payload, size_t n)
+moult_ticks c_packet_ticks(const uint8_t *payload, size_t n)
 {
     c_survey_answer seen = survey(payload, n);
-    moult_time t = {seen.number, seen.place, seen.ticks};
+    moult_ticks t = {seen.number, seen.place, seen.ticks};
     return t;
 }
 
-moult_time c_ptime(uint32_t rate, size_t frames)
+moult_millis c_ptime(uint32_t rate, size_t frames)
 {
-    moult_time t = {0, 0, 0};
+    moult_millis t = {0, 0, 0};
     size_t ticks = rate == 2400 ? 180 : rate == 1200 ? 540 : rate == 600 ? 720 : 0;
     if (ticks == 0 || frames == 0 || frames > MOULT_MAX_FRAMES)
         t.number = 12;
     else
-        t.time = (frames * ticks + 7) / 8;
+        t.millis = (frames * ticks + 7) / 8;
     return t;
 }
 

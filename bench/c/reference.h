@@ -9,8 +9,8 @@ moult_reading c_read(const uint8_t *payload, size_t n, uint16_t *rows, size_t ro
                      uint8_t *bodies, size_t bodies_n);
 moult_writing c_write(const uint16_t *rows, size_t rows_n, const uint8_t *bodies, size_t bodies_n,
                       uint8_t *out, size_t out_n);
-moult_time c_packet_ticks(const uint8_t *payload, size_t n);
-moult_time c_ptime(uint32_t rate, size_t frames);
+moult_ticks c_packet_ticks(const uint8_t *payload, size_t n);
+moult_millis c_ptime(uint32_t rate, size_t frames);
 moult_part c_augmentation(const uint8_t *payload, size_t n, size_t row);
 moult_part c_frame_or(const uint8_t *payload, size_t n, size_t row, const uint8_t *stand_in,
                       size_t stand_in_n);

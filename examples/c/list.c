@@ -26,11 +26,11 @@ static int read_length(FILE *in, size_t *length)
 
 static void print_line(unsigned long number, const uint8_t *payload, size_t length)
 {
-    moult_time ticks = moult_packet_ticks(payload, length);
-    if (ticks.number != MOULT_ACCEPTED)
-        printf("%lu refused %u %zu\n", number, (unsigned)ticks.number, ticks.place);
+    moult_ticks time = moult_packet_ticks(payload, length);
+    if (time.number != MOULT_ACCEPTED)
+        printf("%lu refused %u %zu\n", number, (unsigned)time.number, time.place);
     else
-        printf("%lu ok %d %zu\n", number, (int)moult_count(payload, length), ticks.time);
+        printf("%lu ok %d %zu\n", number, (int)moult_count(payload, length), time.ticks);
 }
 
 static void list(FILE *in)

@@ -14,7 +14,8 @@
 
 STATIC_CHECK(sizeof(moult_reading) == 4 * sizeof(size_t));
 STATIC_CHECK(sizeof(moult_writing) == 3 * sizeof(size_t));
-STATIC_CHECK(sizeof(moult_time) == 3 * sizeof(size_t));
+STATIC_CHECK(sizeof(moult_ticks) == 3 * sizeof(size_t));
+STATIC_CHECK(sizeof(moult_millis) == 3 * sizeof(size_t));
 STATIC_CHECK(sizeof(moult_part) == 3 * sizeof(size_t));
 STATIC_CHECK(sizeof(moult_settings) == 8);
 STATIC_CHECK(offsetof(moult_settings_reading, settings) == 2 * sizeof(size_t));
@@ -81,8 +82,8 @@ static void one_row(const char *text, unsigned kind, unsigned tc, size_t body, s
     CHECK(rows[0] == kind && rows[1] == tc);
     CHECK(unchanged_from(2, body));
     CHECK(moult_count(octets, n) == 1);
-    moult_time t = moult_packet_ticks(octets, n);
-    CHECK(t.number == 0 && t.place == 0 && t.time == ticks);
+    moult_ticks t = moult_packet_ticks(octets, n);
+    CHECK(t.number == 0 && t.place == 0 && t.ticks == ticks);
     moult_part whole = moult_frame_or(octets, n, 0, NULL, 0);
     CHECK(whole.stand_in == 0 && whole.start == 0 && whole.length == n);
     moult_part augmentation = moult_augmentation(octets, n, 0);
@@ -96,8 +97,8 @@ static void refused(const char *text, uint32_t number, size_t place)
     CHECK(r.number == number && r.place == place && r.rows == 0 && r.octets == 0);
     CHECK(unchanged_from(0, 0));
     CHECK(moult_count(octets, n) == -(int32_t)number);
-    moult_time t = moult_packet_ticks(octets, n);
-    CHECK(t.number == number && t.place == place && t.time == 0);
+    moult_ticks t = moult_packet_ticks(octets, n);
+    CHECK(t.number == number && t.place == place && t.ticks == 0);
     moult_part part = moult_frame_or(octets, n, 0, bodies, 5);
     CHECK(part.stand_in == 1 && part.start == 0 && part.length == 5);
     part = moult_augmentation(octets, n, 0);
@@ -150,10 +151,10 @@ static void nothing_lent(void)
 
 static void times(void)
 {
-    CHECK(moult_ptime(2400, 5).time == 113 && moult_ptime(2400, 7).time == 158);
-    CHECK(moult_ptime(1200, 1).time == 68 && moult_ptime(600, 200).time == 18000);
-    moult_time t = moult_ptime(300, 1);
-    CHECK(t.number == 12 && t.place == 0 && t.time == 0);
+    CHECK(moult_ptime(2400, 5).millis == 113 && moult_ptime(2400, 7).millis == 158);
+    CHECK(moult_ptime(1200, 1).millis == 68 && moult_ptime(600, 200).millis == 18000);
+    moult_millis t = moult_ptime(300, 1);
+    CHECK(t.number == 12 && t.place == 0 && t.millis == 0);
     CHECK(moult_ptime(2400, 0).number == 12 && moult_ptime(2400, 201).number == 12);
 }
 

@@ -1,5 +1,6 @@
 -- Laws of the times, one for each case, and the two printed values that the rule decides.
 use mathlib.Core.Path.{_≡_, refl, sym, ap, _∙_}
+use mathlib.Core.Logic.{_⊎_, inl, inr}
 use mathlib.Core.List.{List}
 use Prim.Native.Nat.{ℕ, _+_, _*_, _/_, _≤_, _<_}
 use native.Mathlib.Omega.{arith}
@@ -14,8 +15,9 @@ use Rattle.payload.specs.declared.Extent.{Extent}
 use Rattle.payload.specs.declared.Walked.{Walked}
 use Rattle.payload.specs.declared.Walked.the-variants as walked
 use Rattle.payload.proofs.Seen.{went, went-lasts, stopped, reads-it, none-gives}
-use Rattle.clock.specs.Time.{packetTicks, packetReport, PacketTime, ptimeOf, noPtime}
+use Rattle.clock.specs.Time.{packetTicks, packetReport, PacketTime, ptimeOf, noPtime, ptimeReport, Ptime}
 use Rattle.clock.specs.declared.PacketTicks.the-variants as packet
+use Rattle.clock.specs.declared.PacketMillis.{PacketMillis}
 use Rattle.clock.specs.declared.PacketMillis.the-variants as settings
 
 -- ---- ptime
@@ -42,6 +44,10 @@ module _ (r n : ℕ) where
       go (yes e) = ptime-rate e
       go (no e) = simp (ne-eqb (ticksOfRate r) 0 e, le-ltb n 1 h, lt-ltb 200 n l)
 
+  pub ptime-lasts : (ticksOfRate r ≡ 0 → ⊥) → 1 ≤ n → n ≤ 200 → settings.Lasts (record { 0 = (n * ticksOfRate r + 7) / 8 }) ≡ ptimeOf r n
+  unfolding ptimeOf
+  ptime-lasts e h l = simp (ne-eqb (ticksOfRate r) 0 e, le-ltb n 1 h, le-ltb 200 n l)
+
   module _ (l : n ≤ 200) {t : ℕ} (q : t ≡ ticksOfRate r) where
     -- the time is 0 where there are no frames or the rate is unknown, and only there
     pub ptime-none : (n * t + 7) / 8 ≡ 0 → noPtime ≡ ptimeOf r n
@@ -53,13 +59,21 @@ module _ (r n : ℕ) where
         go (no e) (no h) = let a : 1 ≤ n = omega arith in let b : 1 ≤ t = omega arith in absurd (omega (arith, mul-le-mul a b))
 
     pub ptime-some : ((n * t + 7) / 8 ≡ 0 → ⊥) → settings.Lasts (record { 0 = (n * t + 7) / 8 }) ≡ ptimeOf r n
-    unfolding ptimeOf
     ptime-some z = go (ℕ-discrete (ticksOfRate r) 0) (decLt n 1)
       where
         go : Dec (ticksOfRate r ≡ 0) → Dec (n < 1) → settings.Lasts (record { 0 = (n * t + 7) / 8 }) ≡ ptimeOf r n
         go (yes e) _ = absurd (z (rw (q ∙ e) (omega arith)))
         go (no e) (yes h) = let a : n ≡ 0 = omega arith in absurd (z (rw a (omega arith)))
-        go (no e) (no h) = rw q (simp (ne-eqb (ticksOfRate r) 0 e, le-ltb n 1 (omega arith), le-ltb 200 n l))
+        go (no e) (no h) = rw q (ptime-lasts e (omega arith) l)
+
+  -- the promise, from the answer
+  pub ptimed : {a : PacketMillis} → a ≡ ptimeOf r n → Ptime r n a
+  ptimed {a} q = record { answer = q; lasts = λ e h l. ap ptimeReport (q ∙ sym (ptime-lasts e h l)); refused = λ x. ap ptimeReport (q ∙ sym (none x)) }
+    where
+      none : (ticksOfRate r ≡ 0) ⊎ ((n < 1) ⊎ (200 < n)) → noPtime ≡ ptimeOf r n
+      none (inl e) = ptime-rate e
+      none (inr (inl h)) = ptime-few h
+      none (inr (inr l)) = ptime-many (omega arith) l
 
 pub five-frames : ptimeOf 2400 5 ≡ settings.Lasts (record { 0 = 113 })
 unfolding ptimeOf ticksOfRate

@@ -2,7 +2,8 @@
 use mathlib.Core.Path.{_≡_}
 use mathlib.Core.Bool.{cond}
 use mathlib.Core.List.{List}
-use Prim.Native.Nat.{ℕ, _+_, _*_, _/_}
+use mathlib.Core.Logic.{_⊎_}
+use Prim.Native.Nat.{ℕ, _+_, _*_, _/_, _≤_, _<_}
 use lib.Dec.{eqb, ltb}
 use Rattle.refusal.specs.Numbers.{unknownKind}
 use Rattle.wire.specs.Frame.{Frame, Legal, octetsOf, ticksOf, ticksOfRate}
@@ -17,26 +18,26 @@ abbrev pub packetTicks : Walk → PacketTicks
 packetTicks (at u fs) = packet.Lasts (record { 0 = ticksOf fs })
 packetTicks (refused n place later) = packet.Refused (record { number = n; place = place })
 
--- document 01's numbers for an answer: "its refusal and 0 ticks"; number 0 and place 0 where the payload is accepted
-pub record TimeReport : Type 0 where
+-- document 01's numbers for a packet's time: "its refusal and 0 ticks"; number 0 and place 0 where the payload is accepted
+pub record TicksReport : Type 0 where
   pub number : ℕ
   pub place : ℕ
-  pub time : ℕ
+  pub ticks : ℕ
 
--- the numbers of each case of a packet's time
-abbrev pub packetReport : PacketTicks → TimeReport
-packetReport (packet.Lasts t) = record { number = 0; place = 0; time = t .0 }
-packetReport (packet.Refused x) = record { number = x .number; place = x .place; time = 0 }
+-- those of each case
+abbrev pub packetReport : PacketTicks → TicksReport
+packetReport (packet.Lasts t) = record { number = 0; place = 0; ticks = t .0 }
+packetReport (packet.Refused x) = record { number = x .number; place = x .place; ticks = 0 }
 
 -- what `packet_ticks` promises of a payload p: the answer by the walk, and by legal sequences alone
 pub record PacketTime (p : List ℕ) (a : PacketTicks) : Type 0 where
   pub answer : a ≡ packetTicks (readOf p)
   -- of a legal sequence that gives p, its ticks
-  pub ticks : (fs : List Frame) → Legal fs → octetsOf fs ≡ p → packetReport a ≡ record { number = 0; place = 0; time = ticksOf fs }
+  pub ticks : (fs : List Frame) → Legal fs → octetsOf fs ≡ p → packetReport a ≡ record { number = 0; place = 0; ticks = ticksOf fs }
   -- accepted: there is one
   pub accepted : packetReport a .number ≡ 0 → (fs : List Frame) × Legal fs × (octetsOf fs ≡ p)
   -- refused: 0 ticks
-  pub refused : (packetReport a .number ≡ 0 → ⊥) → packetReport a .time ≡ 0
+  pub refused : (packetReport a .number ≡ 0 → ⊥) → packetReport a .ticks ≡ 0
 
 -- "refusal 12 and 0"
 abbrev pub noPtime : PacketMillis
@@ -49,7 +50,19 @@ ptimeOf rate n =
     cond (eqb (ticksOfRate rate) 0) noPtime
     (cond (ltb n 1) noPtime (cond (ltb 200 n) noPtime (settings.Lasts (record { 0 = (n * ticksOfRate rate + 7) / 8 }))))
 
--- the numbers of each case of a ptime
-abbrev pub ptimeReport : PacketMillis → TimeReport
-ptimeReport (settings.Lasts t) = record { number = 0; place = 0; time = t .0 }
-ptimeReport (settings.Refused x) = record { number = x .number; place = x .place; time = 0 }
+-- document 01's numbers for a ptime: "refusal 12 and 0"; milliseconds and ticks "are two units", and two reports
+pub record MillisReport : Type 0 where
+  pub number : ℕ
+  pub place : ℕ
+  pub millis : ℕ
+
+-- those of each case
+abbrev pub ptimeReport : PacketMillis → MillisReport
+ptimeReport (settings.Lasts t) = record { number = 0; place = 0; millis = t .0 }
+ptimeReport (settings.Refused x) = record { number = x .number; place = x .place; millis = 0 }
+
+-- what `ptime` promises of a rate and n frames
+pub record Ptime (rate n : ℕ) (a : PacketMillis) : Type 0 where
+  pub answer : a ≡ ptimeOf rate n
+  pub lasts : (ticksOfRate rate ≡ 0 → ⊥) → 1 ≤ n → n ≤ 200 → ptimeReport a ≡ record { number = 0; place = 0; millis = (n * ticksOfRate rate + 7) / 8 }
+  pub refused : (ticksOfRate rate ≡ 0) ⊎ ((n < 1) ⊎ (200 < n)) → ptimeReport a ≡ record { number = unknownKind; place = 0; millis = 0 }

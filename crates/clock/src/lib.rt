@@ -1,6 +1,6 @@
 // Time: ticks of 1/8000 second on the clock, milliseconds in settings. The two are types of their own and never mix.
 ghost use mathlib.Core.Path.{_≡_};
-ghost use Rattle.clock.specs.Time.{ptimeOf, PacketTime};
+ghost use Rattle.clock.specs.Time.{PacketTime, Ptime};
 use payload::Walked;
 use refusal::Refusal;
 
@@ -47,7 +47,7 @@ fn unknown() -> PacketMillis
 
 // The packet time of a number of frames at a rate, in whole milliseconds, rounded up.
 pub fn ptime(rate: u32, frames: usize) -> PacketMillis
-    ensures { λ r. ⌜ r ≡ ptimeOf rate frames ⌝ }
+    ensures { λ r. ⌜ Ptime rate frames r ⌝ }
 {
     if 200 < frames {
         return unknown();

@@ -36,8 +36,8 @@ pub counted : (p : List ℕ) (r : ℤ) → Octets p → r ≡ hostCount (readOf 
 unfolding hostCount
 counted p r o e = go (readOf p) refl (read-ends p)
   where
-    frames : (fs : List Frame) → Legal fs → octetsOf fs ≡ p → r ≡ pos (length fs)
-    frames fs l g = e ∙ ap hostCount (reads-it p fs l g)
+    frames : (fs : List Frame) → Legal fs → octetsOf fs ≡ p → (r ≡ pos (length fs)) × (length fs ≤ 200)
+    frames fs l g = (e ∙ ap hostCount (reads-it p fs l g), frames-most fs l)
 
     go : (w : Walk) → readOf p ≡ w → Ended w → Counted p r
     go (at (suc u) fs) q h = absurd h
@@ -45,9 +45,9 @@ counted p r o e = go (readOf p) refl (read-ends p)
         let s = sound p fs o q in
         record {
           answer = e;
-          empty = λ z. frames [] empty-legal (sym z);
+          empty = λ z. frames [] empty-legal (sym z) .0;
           only-empty = λ z.
-              let c : pos (length fs) ≡ pos 0 = sym (frames fs (s .0) (s .1)) ∙ z in
+              let c : pos (length fs) ≡ pos 0 = sym (frames fs (s .0) (s .1) .0) ∙ z in
               let n : length fs ≡ 0 = cc in
               sym (s .1) ∙ ap octetsOf (no-frames fs n);
           frames = frames;
@@ -58,7 +58,7 @@ counted p r o e = go (readOf p) refl (read-ends p)
         let m : r ≡ negℤ (pos n) = e ∙ ap hostCount q in
         record {
           answer = e;
-          empty = λ z. frames [] empty-legal (sym z);
+          empty = λ z. frames [] empty-legal (sym z) .0;
           only-empty = λ z. absurd (minus-some n (d .some) (sym m ∙ z));
           frames = frames;
           negative = λ none. (n, d .some, d .most, m);

@@ -1,10 +1,6 @@
 // The library as a C host calls it. A slice is a pointer and a length; include/moult.h declares each function. A refusal returns
 // in its arm: so the compiler stores either answer by itself and chooses no values before.
-ghost use mathlib.Core.Path.{_≡_};
-ghost use Rattle.wire.specs.Walk.{readOf};
-ghost use Rattle.clock.specs.Time.{packetTicks, packetReport, ptimeOf, ptimeReport};
-ghost use Rattle.views.specs.View.{placeOf, augmentationOf, frameOr};
-ghost use Rattle.host.specs.Host.{Counted, HostReads, timeOf, lent, spanOf};
+ghost use Rattle.host.specs.Host.{Counted, HostReads, HostTimes, HostPtime, HostAugments, HostShows};
 ghost use Rattle.host.specs.Others.{HostWrites, HostParses, HostWritesSettings, HostUnpacks, HostPacks};
 use clock::PacketMillis;
 use clock::PacketTicks;
@@ -26,12 +22,20 @@ pub struct MoultReading {
     pub octets: usize,
 }
 
-// A time: number and place, and ticks or milliseconds.
+// A packet's time: number and place, and ticks of 1/8000 second.
 #[repr(C)]
-pub struct MoultTime {
+pub struct MoultTicks {
     pub number: u32,
     pub place: usize,
-    pub time: usize,
+    pub ticks: usize,
+}
+
+// A ptime: number and place, and milliseconds.
+#[repr(C)]
+pub struct MoultMillis {
+    pub number: u32,
+    pub place: usize,
+    pub millis: usize,
 }
 
 // A part: of the payload, or (where `stand_in` is 1) of the stand-in.
@@ -127,21 +131,21 @@ pub extern "C" fn moult_write(rows: &[u16], bodies: &[u8], out: &mut [u8]) -> Mo
 
 // The ticks of a payload's frames.
 #[no_mangle]
-pub extern "C" fn moult_packet_ticks(payload: &[u8]) -> MoultTime
-    ensures { λ r. ⌜ r ≡ timeOf (packetReport (packetTicks (readOf (now (payload .entry))))) ⌝ }
+pub extern "C" fn moult_packet_ticks(payload: &[u8]) -> MoultTicks
+    ensures { λ r. ⌜ HostTimes (now (payload .entry)) r ⌝ }
 {
     let answer = clock::packet_ticks(payload);
     match answer {
-        PacketTicks::Lasts(ticks) => MoultTime {
+        PacketTicks::Lasts(ticks) => MoultTicks {
             number: 0,
             place: 0,
-            time: ticks.0,
+            ticks: ticks.0,
         },
         PacketTicks::Refused(refusal) => {
-            return MoultTime {
+            return MoultTicks {
                 number: refusal.number as u32,
                 place: refusal.place,
-                time: 0,
+                ticks: 0,
             };
         }
     }
@@ -149,21 +153,21 @@ pub extern "C" fn moult_packet_ticks(payload: &[u8]) -> MoultTime
 
 // The ptime of a number of frames at a rate, in milliseconds.
 #[no_mangle]
-pub extern "C" fn moult_ptime(rate: u32, frames: usize) -> MoultTime
-    ensures { λ r. ⌜ r ≡ timeOf (ptimeReport (ptimeOf rate frames)) ⌝ }
+pub extern "C" fn moult_ptime(rate: u32, frames: usize) -> MoultMillis
+    ensures { λ r. ⌜ HostPtime rate frames r ⌝ }
 {
     let answer = clock::ptime(rate, frames);
     match answer {
-        PacketMillis::Lasts(millis) => MoultTime {
+        PacketMillis::Lasts(millis) => MoultMillis {
             number: 0,
             place: 0,
-            time: millis.0,
+            millis: millis.0,
         },
         PacketMillis::Refused(refusal) => {
-            return MoultTime {
+            return MoultMillis {
                 number: refusal.number as u32,
                 place: refusal.place,
-                time: 0,
+                millis: 0,
             };
         }
     }
@@ -172,7 +176,7 @@ pub extern "C" fn moult_ptime(rate: u32, frames: usize) -> MoultTime
 // Where a row's augmentation stands in the payload; start 0 and length 0 where there is none.
 #[no_mangle]
 pub extern "C" fn moult_augmentation(payload: &[u8], row: usize) -> MoultPart
-    ensures { λ r. ⌜ r ≡ spanOf (augmentationOf (placeOf (readOf (now (payload .entry))) row) (lent 0 (now (payload .entry)))) ⌝ }
+    ensures { λ r. ⌜ HostAugments (now (payload .entry)) row r ⌝ }
 {
     let end = views::end_of(payload, row);
     let place = views::place_at(payload, end);
@@ -205,7 +209,7 @@ pub extern "C" fn moult_augmentation(payload: &[u8], row: usize) -> MoultPart
 // Where a row's own octets stand in the payload, or the whole stand-in, whose octets are never looked at.
 #[no_mangle]
 pub extern "C" fn moult_frame_or(payload: &[u8], row: usize, stand_in: &[u8]) -> MoultPart
-    ensures { λ r. ⌜ r ≡ spanOf (frameOr (placeOf (readOf (now (payload .entry))) row) (lent 0 (now (payload .entry))) (lent 1 (now («stand_in» .entry)))) ⌝ }
+    ensures { λ r. ⌜ HostShows (now (payload .entry)) row (now («stand_in» .entry)) r ⌝ }
 {
     let end = views::end_of(payload, row);
     let place = views::place_at(payload, end);

@@ -31,7 +31,7 @@ lasts-nothing f fs l = go (f .kind) (l .1 .1)
     go tsvcis s e = absurd (omega arith)
 
 -- the time of the empty payload
-no-time : packetReport (packetTicks (readOf [])) ≡ record { number = 0; place = 0; time = 0 }
+no-time : packetReport (packetTicks (readOf [])) ≡ record { number = 0; place = 0; ticks = 0 }
 no-time = ap (λ (w : Walk). packetReport (packetTicks w)) (reads-it [] [] empty-legal refl)
 
 module _ (p r b : List ℕ) (o : Octets p) where
@@ -47,7 +47,7 @@ module _ (p r b : List ℕ) (o : Octets p) where
   frames-time : (fs : List Frame) → readOf p ≡ at 0 fs → Legal fs → octetsOf fs ≡ p → (fs ≡ [] → ⊥) → packetTicks (readOf p) ≡ packetTicks (readOf []) → NoiseAlone p
   frames-time [] q l g some e = absurd (some refl)
   frames-time (f ∷ fs) q l g some e =
-      let z : ticksOf (f ∷ fs) ≡ 0 = sym (ap (λ (w : Walk). packetReport (packetTicks w) .time) q) ∙ ap (λ (a : PacketTicks). packetReport a .time) e ∙ ap (λ x. x .time) no-time in
+      let z : ticksOf (f ∷ fs) ≡ 0 = sym (ap (λ (w : Walk). packetReport (packetTicks w) .ticks) q) ∙ ap (λ (a : PacketTicks). packetReport a .ticks) e ∙ ap (λ x. x .ticks) no-time in
       let s = lasts-nothing f fs l z in
       let c : f ∷ fs ≡ f ∷ [] = ap (λ (gs : List Frame). f ∷ gs) (s .1) in
       (f, s .0, subst Legal c l, ap octetsOf (sym c) ∙ g)

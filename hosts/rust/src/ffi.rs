@@ -20,10 +20,17 @@ pub struct Writing {
 }
 
 #[repr(C)]
-pub struct Time {
+pub struct Ticks {
     pub number: u32,
     pub place: usize,
-    pub time: usize,
+    pub ticks: usize,
+}
+
+#[repr(C)]
+pub struct Millis {
+    pub number: u32,
+    pub place: usize,
+    pub millis: usize,
 }
 
 #[repr(C)]
@@ -58,8 +65,8 @@ unsafe extern "C" {
         out: *mut u8,
         out_n: usize,
     ) -> Writing;
-    fn moult_packet_ticks(payload: *const u8, n: usize) -> Time;
-    fn moult_ptime(rate: u32, frames: usize) -> Time;
+    fn moult_packet_ticks(payload: *const u8, n: usize) -> Ticks;
+    fn moult_ptime(rate: u32, frames: usize) -> Millis;
     fn moult_augmentation(payload: *const u8, n: usize, row: usize) -> Part;
     fn moult_frame_or(
         payload: *const u8,
@@ -123,11 +130,11 @@ pub fn write(rows: &[u16], bodies: &[u8], out: &mut [u8]) -> Writing {
     }
 }
 
-pub fn packet_ticks(payload: &[u8]) -> Time {
+pub fn packet_ticks(payload: &[u8]) -> Ticks {
     unsafe { moult_packet_ticks(payload.as_ptr(), payload.len()) }
 }
 
-pub fn ptime(rate: u32, frames: usize) -> Time {
+pub fn ptime(rate: u32, frames: usize) -> Millis {
     unsafe { moult_ptime(rate, frames) }
 }
 

@@ -21,7 +21,7 @@ pub struct Millis(pub usize);
 /// ```
 pub fn packet_ticks(payload: &[u8]) -> Result<Ticks, Refusal> {
     let time = ffi::packet_ticks(payload);
-    answer(time.number, time.place, Ticks(time.time))
+    answer(time.number, time.place, Ticks(time.ticks))
 }
 
 /// The ptime of 1 to 200 frames at rate 2400, 1200 or 600, rounded up.
@@ -32,5 +32,5 @@ pub fn packet_ticks(payload: &[u8]) -> Result<Ticks, Refusal> {
 /// ```
 pub fn ptime(rate: u32, frames: usize) -> Result<Millis, Refusal> {
     let time = ffi::ptime(rate, frames);
-    answer(time.number, time.place, Millis(time.time))
+    answer(time.number, time.place, Millis(time.millis))
 }

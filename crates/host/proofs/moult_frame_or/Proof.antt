@@ -15,13 +15,13 @@ enum-told : tie.Need-enum-told
 enum-told c = search needs
 
 returns : tie.Need-returns
-returns c = frame-none _ _ (place-end _ _ (λ i. c .before .before .before .before .before .shared-slice-known .given i .fits) (c .before .before .before .end-of .ensures) (c .before .before .place-at .ensures)) _ (c .enum-told .given .1)
+returns c = frame-none _ _ (λ i. c .before .before .before .before .before .shared-slice-known .given i .fits) (place-end _ _ (λ i. c .before .before .before .before .before .shared-slice-known .given i .fits) (c .before .before .before .end-of .ensures) (c .before .before .place-at .ensures)) _ (c .enum-told .given .1)
 
 enum-known-place : tie.Need-enum-known-place
 enum-known-place c = search needs
 
 returns-2 : tie.Need-returns-2
-returns-2 c = frame-there _ _ (place-end _ _ (λ i. c .before .before .before .before .before .before .shared-slice-known .given i .fits) (c .before .before .before .before .end-of .ensures) (c .before .before .before .place-at .ensures)) _ _ (c .before .place .given .1) _ (within _ _ (λ i. c .before .before .before .before .before .before .shared-slice-known .given i .fits) _ _ (c .before .place .given .1) (place-end _ _ (λ i. c .before .before .before .before .before .before .shared-slice-known .given i .fits) (c .before .before .before .before .end-of .ensures) (c .before .before .before .place-at .ensures)))
+returns-2 c = frame-there _ _ (λ i. c .before .before .before .before .before .before .shared-slice-known .given i .fits) (place-end _ _ (λ i. c .before .before .before .before .before .before .shared-slice-known .given i .fits) (c .before .before .before .before .end-of .ensures) (c .before .before .before .place-at .ensures)) _ _ (c .before .place .given .1) _ (within _ _ (λ i. c .before .before .before .before .before .before .shared-slice-known .given i .fits) _ _ (c .before .place .given .1) (place-end _ _ (λ i. c .before .before .before .before .before .before .shared-slice-known .given i .fits) (c .before .before .before .before .end-of .ensures) (c .before .before .before .place-at .ensures)))
 
 pub moult-frame-or-spec : {M : Type 1} → statement M
 moult-frame-or-spec =

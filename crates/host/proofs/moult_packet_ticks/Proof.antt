@@ -1,5 +1,5 @@
-use mathlib.Core.Path.{sym, ap, _∙_}
-use Rattle.host.specs.Host.{timeOf}
+use mathlib.Core.Path.{sym, ap}
+use Rattle.host.specs.Host.{hostTicks}
 use Rattle.clock.specs.Time.{packetReport}
 use Rattle.clock.specs.declared.PacketTicks.{PacketTicks}
 use borrow.Author.Needs.{needs}
@@ -19,10 +19,10 @@ cast-t6 : tie.Need-cast-t6
 cast-t6 c = search needs
 
 returns : tie.Need-returns
-returns c = ap (λ (y : PacketTicks). timeOf (packetReport y)) (sym (c .before .before .answer2 .given .1) ∙ c .before .before .before .before .packet-ticks .ensures .answer)
+returns c = record { answer = c .before .before .before .before .packet-ticks .result; promise = c .before .before .before .before .packet-ticks .ensures; is = ap (λ (y : PacketTicks). hostTicks (packetReport y)) (sym (c .before .before .answer2 .given .1)) }
 
 returns-2 : tie.Need-returns-2
-returns-2 c = ap (λ (y : PacketTicks). timeOf (packetReport y)) (sym (c .before .answer .given .1) ∙ c .before .before .before .packet-ticks .ensures .answer)
+returns-2 c = record { answer = c .before .before .before .packet-ticks .result; promise = c .before .before .before .packet-ticks .ensures; is = ap (λ (y : PacketTicks). hostTicks (packetReport y)) (sym (c .before .answer .given .1)) }
 
 pub moult-packet-ticks-spec : {M : Type 1} → statement M
 moult-packet-ticks-spec =

@@ -1,5 +1,5 @@
-use mathlib.Core.Path.{sym, ap, _∙_}
-use Rattle.host.specs.Host.{timeOf}
+use mathlib.Core.Path.{sym, ap}
+use Rattle.host.specs.Host.{hostMillis}
 use Rattle.clock.specs.Time.{ptimeReport}
 use Rattle.clock.specs.declared.PacketMillis.{PacketMillis}
 use borrow.Author.Needs.{needs}
@@ -19,10 +19,10 @@ cast-t7 : tie.Need-cast-t7
 cast-t7 c = search needs
 
 returns : tie.Need-returns
-returns c = ap (λ (y : PacketMillis). timeOf (ptimeReport y)) (sym (c .before .before .answer2 .given .1) ∙ c .before .before .before .before .ptime .ensures)
+returns c = record { answer = c .before .before .before .before .ptime .result; promise = c .before .before .before .before .ptime .ensures; is = ap (λ (y : PacketMillis). hostMillis (ptimeReport y)) (sym (c .before .before .answer2 .given .1)) }
 
 returns-2 : tie.Need-returns-2
-returns-2 c = ap (λ (y : PacketMillis). timeOf (ptimeReport y)) (sym (c .before .answer .given .1) ∙ c .before .before .before .ptime .ensures)
+returns-2 c = record { answer = c .before .before .before .ptime .result; promise = c .before .before .before .ptime .ensures; is = ap (λ (y : PacketMillis). hostMillis (ptimeReport y)) (sym (c .before .answer .given .1)) }
 
 pub moult-ptime-spec : {M : Type 1} → statement M
 moult-ptime-spec =
