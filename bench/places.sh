@@ -1,6 +1,6 @@
 #!/usr/bin/env bash
-# The functions that are measured, each at eight places: where a function stands in memory moves a line of the benchmark by a
-# quarter, for each implementation. Its place within a page of 4,096 octets is another in each copy, and another than that of the
+# The functions that are measured, each at eight places: where a function stands in memory moves a line of the benchmark by up to
+# a half, for each implementation. Its place within a page of 4,096 octets is another in each copy, and another than that of the
 # functions beside it.
 # places.sh OUT NAME=FILE...: of each implementation the object or archive FILE, whose functions are NAME_count and so on. Makes the
 # archive OUT with a table places_NAME of its functions, place by place.

@@ -5,7 +5,7 @@ use mathlib.Core.List.{List}
 use mathlib.Core.Logic.{_⊎_}
 use Prim.Native.Nat.{ℕ, _+_, _*_, _/_, _≤_, _<_}
 use lib.Dec.{eqb, ltb}
-use Rattle.refusal.specs.Numbers.{unknownKind}
+use Rattle.refusal.specs.Numbers.{unknown}
 use Rattle.wire.specs.Frame.{Frame, Legal, octetsOf, ticksOf, ticksOfRate}
 use Rattle.wire.specs.Walk.{Walk, at, refused, readOf}
 use Rattle.clock.specs.declared.PacketTicks.{PacketTicks}
@@ -41,7 +41,7 @@ pub record PacketTime (p : List ℕ) (a : PacketTicks) : Type 0 where
 
 -- "refusal 12 and 0"
 abbrev pub noPtime : PacketMillis
-noPtime = settings.Refused (record { number = unknownKind; place = 0 })
+noPtime = settings.Refused (record { number = unknown; place = 0 })
 
 -- "ptime of n frames is n times the ticks, divided by 8, rounded up; n is 1 to 200": 113 and 158 milliseconds for five and
 -- seven frames at 2400, where source document 000 lists 112 and 156 against its own rule
@@ -65,4 +65,4 @@ ptimeReport (settings.Refused x) = record { number = x .number; place = x .place
 pub record Ptime (rate n : ℕ) (a : PacketMillis) : Type 0 where
   pub answer : a ≡ ptimeOf rate n
   pub lasts : (ticksOfRate rate ≡ 0 → ⊥) → 1 ≤ n → n ≤ 200 → ptimeReport a ≡ record { number = 0; place = 0; millis = (n * ticksOfRate rate + 7) / 8 }
-  pub refused : (ticksOfRate rate ≡ 0) ⊎ ((n < 1) ⊎ (200 < n)) → ptimeReport a ≡ record { number = unknownKind; place = 0; millis = 0 }
+  pub refused : (ticksOfRate rate ≡ 0) ⊎ ((n < 1) ⊎ (200 < n)) → ptimeReport a ≡ record { number = unknown; place = 0; millis = 0 }

@@ -8,7 +8,7 @@ use lib.ListN.{length, take, drop, take-append-drop, length-append}
 use lib.Seq.{drop-at, drop-drop, append-snoc}
 use Rattle.fmtp.specs.Settings.{IsTcmax}
 use Rattle.fmtp.specs.Text.{lower, bitrateName, tcmaxName, equals, decimal, Item, Bitrate, Tcmax}
-use Rattle.fmtp.specs.Reader.{startsWith}
+use Rattle.fmtp.specs.Steps.{startsWith}
 use Rattle.fmtp.proofs.Words.{starts-exact, starts-spelled, starts-both, map-append, starts-folded, starts-other, spelled-length}
 
 -- ---- an item's text, and what stands behind it

@@ -12,8 +12,7 @@ use native.Mathlib.Decide.{ℕ-discrete}
 use borrow.Author.Tests.{lt-ltb, le-ltb, eq-eqb, ne-eqb, eqb-true}
 use mathlib.Core.Logic.{_⊎_, inl, inr}
 use Rattle.fmtp.specs.Text.{decimal, semicolon}
-use Rattle.fmtp.specs.Reader.{digit, countOn, numberAt, lastNumber}
-use Rattle.fmtp.specs.Writer.{Put}
+use Rattle.fmtp.specs.Steps.{digit, countOn, numberAt, lastNumber, Put}
 use Rattle.fmtp.specs.Settings.{IsTcmax}
 use Rattle.fmtp.proofs.Flags.{below-or, everyBelow, every-below}
 

@@ -11,9 +11,9 @@ use lib.ListN.{length, getD, drop}
 use lib.Seq.{drop-cons, drop-length, drop-at}
 use lib.Dec.{eqb}
 use borrow.Author.Tests.{eq-eqb, ne-eqb, eqb-true, eqb-false, not-true}
-use Rattle.fmtp.specs.Settings.{IsRate, bps2400, bps1200, bps600, IsRates, one, two, three, IsPlace}
+use Rattle.fmtp.specs.Settings.{IsRate, bps2400, bps1200, bps600, IsRates, one, two, three}
 use Rattle.fmtp.specs.Text.{lower, comma, text2400, text1200, text600, rateText, moreText, ratesText}
-use Rattle.fmtp.specs.Reader.{startsWith, rateAt, moreAt, thirdAt, differTest, limitBehind, settle, fromRates}
+use Rattle.fmtp.specs.Steps.{IsPlace, startsWith, rateAt, moreAt, thirdAt, differTest, limitBehind, settle, fromRates}
 use Rattle.fmtp.proofs.Flags.{second-true, either-true}
 use Rattle.fmtp.proofs.SettingsLaws.{rate-pos, place-rate}
 use Rattle.fmtp.proofs.Words.{fold-only, starts-exact, drop-on, split-fits}

@@ -1,4 +1,4 @@
--- The reader's promise: its steps accept exactly the texts that mean settings, and answer what they mean.
+-- The reader's promise: its steps accept exactly the texts that mean settings, and answer what they mean; and it leaves one answer only.
 use mathlib.Core.Path.{_≡_, refl, sym, ap, _∙_, subst}
 use mathlib.Core.Bool.{Bool, true, false, cond}
 use mathlib.Core.List.{List, [], _∷_, _++_, append-nil}
@@ -9,16 +9,32 @@ use lib.Dec.{eqb}
 use lib.ListN.{length, drop, length-append, length-drop}
 use lib.Seq.{drop-at, drop-drop, drop-length}
 use borrow.Author.Tests.{eq-eqb, ne-eqb, eqb-true}
+use Rattle.refusal.specs.Numbers.{wrongSettings}
 use Rattle.fmtp.specs.declared.Settings.{Settings}
 use Rattle.fmtp.specs.declared.Parsed.{Parsed}
 use Rattle.fmtp.specs.declared.Parsed.the-variants.{Accepted, Refused}
 use Rattle.fmtp.specs.Text.{lower, bitrateName, tcmaxName, equals, semicolon, comma, moreText, ratesText, decimal, Bitrate, Tcmax, settingsOf, missingTcmax, Means, neither, bitrate, tcmax, bitrateTcmax, tcmaxBitrate}
-use Rattle.fmtp.specs.Reader.{startsWith, differTest, numberAt, lastNumber, orMissing, limitBehind, wrongText, settle, fromRates, limitBefore, limitAlone, behindLimit, fromBitrate, behindBefore, readOf, reported, Judged, meant, meaningless, Reads}
+use Rattle.fmtp.specs.Reader.{Report, accepting, refusing, reported, Judged, meant, meaningless, Reads}
+use Rattle.fmtp.specs.Steps.{startsWith, differTest, numberAt, lastNumber, orMissing, limitBehind, wrongText, settle, fromRates, limitBefore, limitAlone, behindLimit}
 use Rattle.fmtp.proofs.Flags.{both-true}
 use Rattle.fmtp.proofs.Words.{fold-only, starts-exact, drop-on, starts-fit}
 use Rattle.fmtp.proofs.RateLaws.{rates-read, differ-passes, rated, Taken, from-steps}
 use Rattle.fmtp.proofs.NumberLaws.{number-found, number-whole, number-joined, last-found, last-read}
 use Rattle.fmtp.proofs.ItemLaws.{item-starts, item-value, item-length, bitrate-other, started, limit-item}
+use Rattle.fmtp.proofs.TextLaws.{means-settings}
+
+-- ---- the reader's answer, by its steps
+
+-- from a bitrate item on
+fromBitrate : ℕ → List ℕ → Parsed
+fromBitrate n t = cond (startsWith (bitrateName ++ (equals ∷ [])) t) (fromRates n (drop 8 t)) wrongText
+
+-- for a text that starts with a tcmax item of the number n, of which 0 stands for none
+behindBefore : ℕ → List ℕ → Parsed
+behindBefore n t = cond (limitAlone n t) (Accepted (settingsOf 2400 0 0 n)) (fromBitrate n (behindLimit n t))
+
+pub readOf : List ℕ → Parsed
+readOf t = cond (eqb (length t) 0) (Accepted (settingsOf 2400 0 0 missingTcmax)) (behindBefore (limitBefore t) t)
 
 empty-list : (t : List ℕ) → length t ≡ 0 → t ≡ []
 empty-list [] e = refl
@@ -400,11 +416,41 @@ meant-or-not t (Refused r) e g =
     meaningless (λ s m. let f : Refused r ≡ Accepted s = sym e ∙ complete m in let z : _≡_ {A = ℕ} 0 1 = cc in omega arith) (ap reported g)
 
 pub promise : (t : List ℕ) (r : Parsed) → r ≡ readOf t → Reads t r
-promise t r e = record {
-  answer = e;
-  judged = rw e (meant-or-not t (readOf t) refl (sound t));
-  single = unique t;
-}
+promise t r e = record { judged = rw e (meant-or-not t (readOf t) refl (sound t)); single = unique t }
+
+-- ---- the promise leaves one answer only
+
+judged-wrong : (r : Parsed) → reported r ≡ refusing wrongSettings 0 → r ≡ wrongText
+judged-wrong (Accepted s) e = absurd (omega (arith, ap (λ (x : Report). x .number) e))
+judged-wrong (Refused r) e = ap (λ (x : Report). Refused (record { number = x .number; place = x .place })) e
+
+module _ {t : List ℕ} where
+  judged-meant : (s : Settings) → Means t s → (r : Parsed) → reported r ≡ accepting s → r ≡ Accepted s
+  judged-meant s m (Accepted s′) e = ap (λ (x : Report). Accepted (x .settings)) e
+  judged-meant s m (Refused r) e =
+      let z : 0 ≡ s .tcmax = ap (λ (x : Report). x .settings .tcmax) e in
+      absurd (omega (arith, means-settings m .tcmax .least))
+
+  pub read-meant : {s : Settings} {r : Parsed} → Means t s → Reads t r → r ≡ Accepted s
+  read-meant {s} {r} m d = go (d .judged)
+    where
+      go : Judged t (reported r) → r ≡ Accepted s
+      go (meant s′ m′ e) = judged-meant s m r (e ∙ ap accepting (d .single s′ s m′ m))
+      go (meaningless f e) = absurd (f s m)
+
+  pub read-meaningless : {r : Parsed} → ((s : Settings) → Means t s → ⊥) → Reads t r → r ≡ wrongText
+  read-meaningless {r} f d = go (d .judged)
+    where
+      go : Judged t (reported r) → r ≡ wrongText
+      go (meant s m e) = absurd (f s m)
+      go (meaningless f e) = judged-wrong r e
+
+  pub one-answer : {r r′ : Parsed} → Reads t r → Reads t r′ → r ≡ r′
+  one-answer {r} {r′} d d′ = go (d .judged)
+    where
+      go : Judged t (reported r) → r ≡ r′
+      go (meant s m e) = read-meant m d ∙ sym (read-meant m d′)
+      go (meaningless f e) = read-meaningless f d ∙ sym (read-meaningless f d′)
 
 -- ---- the code's steps
 

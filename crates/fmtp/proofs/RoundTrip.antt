@@ -10,19 +10,19 @@ use Rattle.fmtp.specs.declared.Parsed.{Parsed}
 use Rattle.fmtp.specs.declared.Parsed.the-variants.{Accepted}
 use Rattle.fmtp.specs.declared.Written.the-variants.{Octets}
 use Rattle.fmtp.specs.Settings.{IsSettings}
-use Rattle.fmtp.specs.Text.{lower, bitrateName, tcmaxName, equals, semicolon, comma, text2400, text1200, text600, rateText, moreText, decimal, settingsOf, Means}
-use Rattle.fmtp.specs.Reader.{digit, numberAt, limitBefore, limitAlone, behindBefore, readOf, Reads}
+use Rattle.fmtp.specs.Text.{lower, bitrateName, tcmaxName, equals, semicolon, comma, text2400, text1200, text600, rateText, moreText, decimal, settingsOf, Means, neither, tcmax}
+use Rattle.fmtp.specs.Reader.{Reads}
 use Rattle.fmtp.specs.Writer.{textOf, writeReported, WriteReport, Writes, wrong, short, whole}
 use Rattle.fmtp.proofs.TextLaws.{means-settings, written-means}
-use Rattle.fmtp.proofs.ReadLaws.{complete}
+use Rattle.fmtp.proofs.ReadLaws.{read-meant}
 
 -- reading what was written gives the settings
-pub read-written : (s : Settings) → IsSettings s → readOf (textOf s) ≡ Accepted s
-read-written s i = complete (written-means s i)
+pub read-written : (s : Settings) {r : Parsed} → IsSettings s → Reads (textOf s) r → r ≡ Accepted s
+read-written s i d = read-meant (written-means s i) d
 
 -- a text that means settings and the text written from them are read alike
-pub read-alike : {t : List ℕ} {s : Settings} → Means t s → readOf (textOf s) ≡ readOf t
-read-alike {s = s} m = read-written s (means-settings m) ∙ sym (complete m)
+pub read-alike : {t : List ℕ} {s : Settings} {r r′ : Parsed} → Means t s → Reads (textOf s) r → Reads t r′ → r ≡ r′
+read-alike {s = s} m d d′ = read-written s (means-settings m) d ∙ sym (read-meant m d′)
 
 octets-of : (n : ℕ) (x : WriteReport) → writeReported (Octets n) ≡ x → n ≡ x .octets
 octets-of n x e = ap (λ (y : WriteReport). y .octets) e
@@ -36,18 +36,18 @@ round-trip s before after n r (wrong m e f) d = absurd (omega (arith, number-of 
 round-trip s before after n r (short m l e f) d = absurd (omega (arith, number-of n _ e))
 round-trip s before after n r (whole m l e f g h) d =
     let k : take n after ≡ textOf s = rw f (take-at (textOf s) (drop (length (textOf s)) before) n (sym (octets-of n _ e))) in
-    d .answer ∙ ap readOf k ∙ complete g
+    read-meant (rw k g) d
 
 -- ---- examples of document 01, "The setting text"
 
-pub empty-text : readOf [] ≡ Accepted (settingsOf 2400 0 0 35)
-unfolding readOf
-empty-text = refl
+pub empty-text : {r : Parsed} → Reads [] r → r ≡ Accepted (settingsOf 2400 0 0 35)
+empty-text d = read-meant neither d
 
 -- `tcmax=101`
-pub tcmax-101 : readOf (tcmaxName ++ (equals ∷ 49 ∷ 48 ∷ 49 ∷ [])) ≡ Accepted (settingsOf 2400 0 0 101)
-unfolding readOf behindBefore limitAlone limitBefore numberAt digit decimal lower
-tcmax-101 = refl
+pub tcmax-101 : {r : Parsed} → Reads (tcmaxName ++ (equals ∷ 49 ∷ 48 ∷ 49 ∷ [])) r → r ≡ Accepted (settingsOf 2400 0 0 101)
+unfolding decimal lower
+tcmax-101 d =
+    read-meant (tcmax (record { number = record { least = omega arith; most = omega arith }; item = record { spelling = tcmaxName; folds = refl; text = refl } })) d
 
 -- `bitrate=2400,1200,600;tcmax=255`
 pub longest : textOf (settingsOf 2400 1200 600 255)

@@ -1,5 +1,5 @@
--- Laws of settings: the tests decide the definitions; having a rate, and the order of rates.
-use mathlib.Core.Path.{_≡_, refl, sym, _∙_, subst}
+-- Laws of settings: the tests decide the definitions.
+use mathlib.Core.Path.{_≡_, refl, sym, _∙_}
 use mathlib.Core.Logic.{_⊎_, inl, inr}
 use mathlib.Core.Bool.{Bool, true, false, cond, true≢false, false≢true}
 use Prim.Native.Nat.{ℕ, _≤_, _<_}
@@ -7,7 +7,8 @@ use native.Mathlib.Omega.{arith}
 use lib.Dec.{eqb}
 use borrow.Author.Tests.{eqb-true, eqb-false, ne-eqb}
 use Rattle.fmtp.specs.declared.Settings.{Settings}
-use Rattle.fmtp.specs.Settings.{IsRate, bps2400, bps1200, bps600, IsRates, one, two, three, IsPlace, free, taken, IsSettings, HasRate, atFirst, atSecond, atThird, Prefers, firstSecond, firstThird, secondThird, Decides, holds, fails, rateTest, thirdTest, ratesTest}
+use Rattle.fmtp.specs.Settings.{IsRate, bps2400, bps1200, bps600, IsRates, one, two, three, IsSettings, Decides, holds, fails}
+use Rattle.fmtp.specs.Steps.{IsPlace, free, taken, rateTest, thirdTest, ratesTest}
 use Rattle.fmtp.proofs.Flags.{both-true, second-true, either-true}
 
 -- ---- the tests
@@ -115,81 +116,3 @@ decided-true (fails f) e = absurd (false≢true e)
 pub decided-false : {P : Type 0} {b : Bool} → Decides P b → b ≡ false → P → ⊥
 decided-false (holds p) e = absurd (true≢false e)
 decided-false (fails f) e = f
-
--- ---- having a rate, and the order of rates
-
-unused : {r : ℕ} → IsRate r → r ≡ 0 → ⊥
-unused i e = omega (arith, rate-pos i)
-
-first-second : {a b c : ℕ} → IsRates a b c → IsRate b → a ≡ b → ⊥
-first-second (one ra) i e = unused i refl
-first-second (two ra rb ab) i e = ab e
-first-second (three ra rb rc ab ac bc) i e = ab e
-
-first-third : {a b c : ℕ} → IsRates a b c → IsRate c → a ≡ c → ⊥
-first-third (one ra) i e = unused i refl
-first-third (two ra rb ab) i e = unused i refl
-first-third (three ra rb rc ab ac bc) i e = ac e
-
-second-third : {a b c : ℕ} → IsRates a b c → IsRate c → b ≡ c → ⊥
-second-third (one ra) i e = unused i refl
-second-third (two ra rb ab) i e = unused i refl
-second-third (three ra rb rc ab ac bc) i e = bc e
-
-first-rate : {a b c : ℕ} → IsRates a b c → IsRate a
-first-rate (one ra) = ra
-first-rate (two ra rb ab) = ra
-first-rate (three ra rb rc ab ac bc) = ra
-
-pub has-first : (s : Settings) → IsSettings s → HasRate s (s .first)
-has-first s i = atFirst (first-rate (i .rates)) refl
-
-pub has-rate : {s : Settings} {r : ℕ} → HasRate s r → IsRate r
-has-rate (atFirst i p) = i
-has-rate (atSecond i p) = i
-has-rate (atThird i p) = i
-
-pub prefers-has : {s : Settings} {a b : ℕ} → Prefers s a b → HasRate s a × HasRate s b
-prefers-has (firstSecond ra rb p q) = (atFirst ra p, atSecond rb q)
-prefers-has (firstThird ra rb p q) = (atFirst ra p, atThird rb q)
-prefers-has (secondThird ra rb p q) = (atSecond ra p, atThird rb q)
-
-module _ {s : Settings} (i : IsSettings s) where
-  differ-12 : {r : ℕ} → IsRate r → s .first ≡ r → s .second ≡ r → ⊥
-  differ-12 ir e f = first-second (i .rates) (subst IsRate (sym f) ir) (e ∙ sym f)
-
-  differ-13 : {r : ℕ} → IsRate r → s .first ≡ r → s .third ≡ r → ⊥
-  differ-13 ir e f = first-third (i .rates) (subst IsRate (sym f) ir) (e ∙ sym f)
-
-  differ-23 : {r : ℕ} → IsRate r → s .second ≡ r → s .third ≡ r → ⊥
-  differ-23 ir e f = second-third (i .rates) (subst IsRate (sym f) ir) (e ∙ sym f)
-
-  -- no two rates are preferred to one another, and none to itself
-  pub prefers-one-way : {a b : ℕ} → Prefers s a b → Prefers s b a → ⊥
-  prefers-one-way (firstSecond ra rb p q) (firstSecond x y v w) = differ-12 ra p w
-  prefers-one-way (firstSecond ra rb p q) (firstThird x y v w) = differ-13 ra p w
-  prefers-one-way (firstSecond ra rb p q) (secondThird x y v w) = differ-13 ra p w
-  prefers-one-way (firstThird ra rb p q) (firstSecond x y v w) = differ-12 ra p w
-  prefers-one-way (firstThird ra rb p q) (firstThird x y v w) = differ-13 ra p w
-  prefers-one-way (firstThird ra rb p q) (secondThird x y v w) = differ-13 ra p w
-  prefers-one-way (secondThird ra rb p q) (firstSecond x y v w) = differ-13 rb v q
-  prefers-one-way (secondThird ra rb p q) (firstThird x y v w) = differ-13 rb v q
-  prefers-one-way (secondThird ra rb p q) (secondThird x y v w) = differ-23 ra p w
-
-  -- of two rates that the settings have, one is preferred
-  pub prefers-either : {a b : ℕ} → HasRate s a → HasRate s b → (a ≡ b → ⊥) → Prefers s a b ⊎ Prefers s b a
-  prefers-either (atFirst ra p) (atFirst rb q) n = absurd (n (sym p ∙ q))
-  prefers-either (atFirst ra p) (atSecond rb q) n = inl (firstSecond ra rb p q)
-  prefers-either (atFirst ra p) (atThird rb q) n = inl (firstThird ra rb p q)
-  prefers-either (atSecond ra p) (atFirst rb q) n = inr (firstSecond rb ra q p)
-  prefers-either (atSecond ra p) (atSecond rb q) n = absurd (n (sym p ∙ q))
-  prefers-either (atSecond ra p) (atThird rb q) n = inl (secondThird ra rb p q)
-  prefers-either (atThird ra p) (atFirst rb q) n = inr (firstThird rb ra q p)
-  prefers-either (atThird ra p) (atSecond rb q) n = inr (secondThird rb ra q p)
-  prefers-either (atThird ra p) (atThird rb q) n = absurd (n (sym p ∙ q))
-
-  -- the first rate is preferred to any other
-  pub prefers-first : {r : ℕ} → HasRate s r → (s .first ≡ r → ⊥) → Prefers s (s .first) r
-  prefers-first (atFirst ir p) n = absurd (n p)
-  prefers-first (atSecond ir p) n = firstSecond (first-rate (i .rates)) ir refl p
-  prefers-first (atThird ir p) n = firstThird (first-rate (i .rates)) ir refl p

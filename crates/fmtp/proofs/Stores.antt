@@ -7,7 +7,7 @@ use native.Mathlib.Nat.{add-zero}
 use native.Mathlib.Numerals.{add-one}
 use lib.ListN.{length, getD, set, drop, length-set, length-append}
 use lib.Seq.{sets, length-sets, drop-cons, drop-length}
-use Rattle.fmtp.specs.Writer.{Put}
+use Rattle.fmtp.specs.Steps.{Put}
 
 -- ---- the loop that puts a word
 

@@ -12,7 +12,7 @@ use lib.Seq.{drop-cons, drop-length, drop-drop}
 use mathlib.Core.Logic.{_⊎_, inl, inr}
 use borrow.Author.Tests.{lt-ltb, le-ltb, eq-eqb, ne-eqb, eqb-true, ltb-true}
 use Rattle.fmtp.specs.Text.{lower}
-use Rattle.fmtp.specs.Reader.{startsWith}
+use Rattle.fmtp.specs.Steps.{startsWith}
 use Rattle.fmtp.proofs.Flags.{below-or, both-true}
 
 -- ---- folding

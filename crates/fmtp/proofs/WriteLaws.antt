@@ -13,7 +13,8 @@ use Rattle.refusal.specs.Numbers.{wrongSettings, shortBuffer}
 use Rattle.fmtp.specs.declared.Written.{Written}
 use Rattle.fmtp.specs.declared.Written.the-variants.{Octets}
 use Rattle.fmtp.specs.Settings.{IsSettings, Decides}
-use Rattle.fmtp.specs.Writer.{textOf, Put, MayBeWritten, failing, writeReported, Writes, wrong, short, whole}
+use Rattle.fmtp.specs.Writer.{textOf, MayBeWritten, writeReported, Writes, wrong, short, whole}
+use Rattle.fmtp.specs.Steps.{Put, failing}
 use Rattle.fmtp.proofs.SettingsLaws.{decided-true, decided-false}
 use Rattle.fmtp.proofs.TextLaws.{written-means, text-31}
 use Rattle.fmtp.proofs.Stores.{put-both}

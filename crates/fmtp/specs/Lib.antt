@@ -2,3 +2,4 @@ pub mod Settings
 pub mod Text
 pub mod Reader
 pub mod Writer
+pub mod Steps

@@ -1,9 +1,8 @@
--- What writing settings answers, and what the lent buffer then holds.
+-- Document 01, "The setting text": what writing settings answers, and what the lent buffer then holds.
 use mathlib.Core.Path.{_≡_}
 use mathlib.Core.List.{List, _∷_, _++_}
-use Prim.Native.Nat.{ℕ, _+_, _≤_, _<_}
+use Prim.Native.Nat.{ℕ, _≤_, _<_}
 use lib.ListN.{length, drop}
-use lib.Seq.{sets}
 use Rattle.refusal.specs.Numbers.{wrongSettings, shortBuffer}
 use Rattle.fmtp.specs.declared.Settings.{Settings}
 use Rattle.fmtp.specs.declared.Written.{Written}
@@ -11,32 +10,28 @@ use Rattle.fmtp.specs.declared.Written.the-variants.{Octets, Refused}
 use Rattle.fmtp.specs.Settings.{IsSettings}
 use Rattle.fmtp.specs.Text.{bitrateName, tcmaxName, equals, semicolon, ratesText, decimal, Means}
 
--- Document 01, "The setting text": "The writer puts bitrate, then tcmax, lower case, both always".
+-- "The writer puts bitrate, then tcmax, lower case, both always"
 unfoldable pub textOf : Settings → List ℕ
 textOf s = (bitrateName ++ (equals ∷ ratesText (s .first) (s .second) (s .third))) ++ (semicolon ∷ (tcmaxName ++ (equals ∷ decimal (s .tcmax))))
 
--- Document 01, "The setting text": the settings that the writer takes, which are all settings. Apart from `IsSettings`, which reading, offers
--- and stored settings keep.
+-- what the writer takes: all settings, "anything else is refused 15 by the writer". Whether settings may be written is a question of its
+-- own, so it has a name apart from `IsSettings` (docs/DECISIONS.md, 13).
 abbrev pub MayBeWritten : Settings → Type 0
 MayBeWritten s = IsSettings s
 
--- Document 01, "Refusal numbers": the writer's refusal of a number, at a place.
-abbrev pub failing : ℕ → ℕ → Written
-failing n p = Refused (record { number = n; place = p })
-
--- Document 01, "Refusal numbers": number, place and octets written of an answer.
+-- Document 01, "Refusal numbers": number, place and octets written of an answer
 pub record WriteReport : Type 0 where
   pub number : ℕ
   pub place : ℕ
   pub octets : ℕ
 
--- Document 01, "Refusal numbers": what each answer of the writer reports; a refusal reports 0 octets.
+-- Document 01, "Refusal numbers": what each answer of the writer reports; a refusal reports 0 octets
 abbrev pub writeReported : Written → WriteReport
 writeReported (Octets n) = record { number = 0; place = 0; octets = n }
 writeReported (Refused r) = record { number = r .number; place = r .place; octets = 0 }
 
--- Document 01, "The setting text": the writer's promise. "Refusal 15 before 10"; a refusal changes nothing; an accepted writing puts the text,
--- which means the settings, into the first places, and changes nothing beyond.
+-- the writer's promise: "refusal 15 before 10"; a refusal changes nothing; an accepted writing puts the text, which means the settings and
+-- has at most 31 octets, into the first places, and changes nothing beyond
 pub data Writes (s : Settings) (before : List ℕ) (r : Written) (after : List ℕ) : Type 0 where
   wrong : (MayBeWritten s → ⊥)
       → writeReported r ≡ record { number = wrongSettings; place = 0; octets = 0 }
@@ -48,8 +43,3 @@ pub data Writes (s : Settings) (before : List ℕ) (r : Written) (after : List �
       → writeReported r ≡ record { number = 0; place = 0; octets = length (textOf s) }
       → after ≡ textOf s ++ drop (length (textOf s)) before
       → Means (textOf s) s → length (textOf s) ≤ 31 → Writes s before r after
-
--- A step of the writer: the word stands in the buffer from an index on, and the answer is the index behind it.
-pub record Put (before : List ℕ) (at : ℕ) (word : List ℕ) (r : ℕ) (after : List ℕ) : Type 0 where
-  pub end : r ≡ at + length word
-  pub stored : after ≡ sets before at word

@@ -6,10 +6,14 @@ ghost use mathlib.Core.List.{map};
 ghost use Prim.Native.Nat.{_+_, _≤_, _<_};
 ghost use lib.Dec.{eqb};
 ghost use lib.ListN.{length, drop};
-ghost use Rattle.fmtp.specs.Settings.{Decides, IsRate, IsRates, IsPlace, IsSettings, rateTest, thirdTest, ratesTest};
+ghost use Rattle.fmtp.specs.Settings.{Decides, IsRate, IsRates, IsSettings};
 ghost use Rattle.fmtp.specs.Text.{lower, rateText, moreText, ratesText, decimal, settingsOf};
-ghost use Rattle.fmtp.specs.Reader.{startsWith, rateAt, moreAt, thirdAt, differTest, digit, numberAt, lastNumber, orMissing, limitBehind, fromRates, limitBefore, limitAlone, behindLimit, wrongText, Reads};
-ghost use Rattle.fmtp.specs.Writer.{textOf, MayBeWritten, failing, Put, Writes};
+ghost use Rattle.fmtp.specs.Reader.{Reads};
+ghost use Rattle.fmtp.specs.Writer.{textOf, MayBeWritten, Writes};
+ghost use Rattle.fmtp.specs.Steps.{IsPlace, rateTest, thirdTest, ratesTest};
+ghost use Rattle.fmtp.specs.Steps.{startsWith, rateAt, moreAt, thirdAt, digit, numberAt, lastNumber, orMissing, limitBehind};
+ghost use Rattle.fmtp.specs.Steps.{wrongText, differTest, fromRates, limitBefore, limitAlone, behindLimit};
+ghost use Rattle.fmtp.specs.Steps.{failing, Put};
 
 // Document 01's settings: one to three different rates, the preferred one first, unused places 0;
 // and the most augmentation octets that are wanted of a frame. A value of this type need not be settings.

@@ -12,7 +12,8 @@ use borrow.Author.Tests.{lt-ltb, le-ltb}
 use Rattle.leb128.specs.Number.{groupsOf, Within, Partial, lastGroup, moreGroups, stepOf, Head, number, none, headFrom, headOf}
 use Rattle.leb128.specs.declared.Group.{Group}
 use Rattle.leb128.specs.declared.Group.the-variants.{More, Last, Bad}
-use Rattle.leb128.proofs.Steps.{below-or, held-more, last-zero, last-nought, last-over, last-right, more-right, more-many, step-last, step-more}
+use Rattle.leb128.proofs.Steps.{below-or, held-more, last-zero, last-nought, last-over, last-right, more-right, more-many}
+use Rattle.leb128.proofs.Steps.{step-full, step-last, step-more}
 
 -- ---- a number's octets
 
@@ -42,13 +43,17 @@ module _ (most bound : ℕ) (top : most ≤ 9) where
       go (Last n) = refl
       go Bad = refl
 
-  module _ (v k x : ℕ) (xs : List ℕ) (p : Partial v k) where
+  -- no group may follow
+  head-full : (v k x : ℕ) (xs : List ℕ) → most ≤ k → headFrom most bound v k (x ∷ xs) ≡ none
+  head-full v k x xs l = head-after v k x xs ∙ ap (after k xs) (sym (step-full most bound v k x l))
+
+  module _ (v k x : ℕ) (xs : List ℕ) (p : Partial v k) (f : k < most) where
     -- the head from the groups so far and this octet on, where the octet is the last group, or not
     head-last : x < 128 → headFrom most bound v k (x ∷ xs) ≡ after k xs (lastGroup bound v k x)
-    head-last h = head-after v k x xs ∙ ap (after k xs) (sym (step-last most bound v k x p h))
+    head-last h = head-after v k x xs ∙ ap (after k xs) (sym (step-last most bound v k x p f h))
 
     head-more : 128 ≤ x → headFrom most bound v k (x ∷ xs) ≡ after k xs (moreGroups most v k x)
-    head-more h = head-after v k x xs ∙ ap (after k xs) (sym (step-more most bound v k x p h))
+    head-more h = head-after v k x xs ∙ ap (after k xs) (sym (step-more most bound v k x p f h))
 
     -- a last group that is in the shortest form and within the bound
     head-number : x < 128 → (1 ≤ k → 1 ≤ x) → v + x * 128 ^ k ≤ bound → headFrom most bound v k (x ∷ xs) ≡ number (v + x * 128 ^ k) xs
@@ -103,12 +108,12 @@ module _ (most bound : ℕ) (top : most ≤ 9) where
       go : ((w m : ℕ) → w < 128 ^ (k + 1) → j + (k + 1) ≡ most → m < 128 ^ j → 1 ≤ j → (1 ≤ k + 1 → 1 ≤ m) → w + m * 128 ^ (k + 1) ≤ bound
           → headFrom most bound w (k + 1) (groupsOf j m ++ rest) ≡ number (w + m * 128 ^ (k + 1)) rest)
           → (n < 128) ⊎ (128 ≤ n) → headFrom most bound v k (groupsOf (suc j) n ++ rest) ≡ number (v + n * 128 ^ k) rest
-      go ih (inl h) = rw (groups-one j n h) (head-number v k n rest part h nz small)
+      go ih (inl h) = rw (groups-one j n h) (head-number v k n rest part (omega arith) h nz small)
       go ih (inr h) =
           let i : 1 ≤ j = some j (rw pow at hn) h in
           let x : (128 + n % 128) - 128 ≡ n % 128 = omega arith in
           rw (groups-more j n h)
-          (head-next v k (128 + n % 128) (groupsOf j (n / 128) ++ rest) part (omega arith) (omega arith)
+          (head-next v k (128 + n % 128) (groupsOf j (n / 128) ++ rest) part (omega arith) (omega arith) (omega arith)
           ∙ ap (λ (m : ℕ). headFrom most bound (v + m * 128 ^ k) (k + 1) (groupsOf j (n / 128) ++ rest)) x
           ∙ ih (v + n % 128 * 128 ^ k) (n / 128) (held-more v k (n % 128) hv (omega arith)) (omega arith) (omega (arith, rw pow at hn)) i (λ q. omega arith) (omega (arith, value))
           ∙ ap (λ (m : ℕ). number m rest) value)
@@ -127,18 +132,21 @@ module _ (most bound : ℕ) (top : most ≤ 9) where
   never : {n : ℕ} {rest : List ℕ} → none ≡ number n rest → ⊥
   never e = let z : _≡_ {A = ℕ} 0 1 = cc in omega arith
 
-  found : (xs : List ℕ) (j v k n : ℕ) (rest : List ℕ) → ((i : ℕ) → getD xs i 0 < 256) → v < 128 ^ k → j + k ≡ most → 1 ≤ j
+  found : (xs : List ℕ) (j v k n : ℕ) (rest : List ℕ) → ((i : ℕ) → getD xs i 0 < 256) → v < 128 ^ k → j + k ≡ most
       → headFrom most bound v k xs ≡ number n rest → Found j v k xs n rest
-  found [] j v k n rest o hv e hj q = absurd (let z : _≡_ {A = ℕ} 0 1 = cc in omega arith)
-  found (x ∷ xs) zero v k n rest o hv e hj q = absurd (omega arith)
-  found (x ∷ xs) (suc j) v k n rest o hv e hj q = go (λ w hw ek hi d. found xs j w (k + 1) n rest (λ i. o (suc i)) hw ek hi d) (below-or x 128)
+  found [] j v k n rest o hv e q = absurd (let z : _≡_ {A = ℕ} 0 1 = cc in omega arith)
+  found (x ∷ xs) zero v k n rest o hv e q = absurd (never (sym (head-full v k x xs (omega arith)) ∙ q))
+  found (x ∷ xs) (suc j) v k n rest o hv e q = go (λ w hw ek d. found xs j w (k + 1) n rest (λ i. o (suc i)) hw ek d) (below-or x 128)
     where
       part : Partial v k
       part = record { few = omega arith; held = hv }
 
+      few : k < most
+      few = omega arith
+
       last : x < 128 → (1 ≤ k → 1 ≤ x) → v + x * 128 ^ k ≤ bound → Found (suc j) v k (x ∷ xs) n rest
       last h nz small =
-          let d : number (v + x * 128 ^ k) xs ≡ number n rest = sym (head-number v k x xs part h nz small) ∙ q in
+          let d : number (v + x * 128 ^ k) xs ≡ number n rest = sym (head-number v k x xs part few h nz small) ∙ q in
           let dn : n ≡ v + x * 128 ^ k = cc in
           let dr : xs ≡ rest = cc in
           record {
@@ -150,14 +158,14 @@ module _ (most bound : ℕ) (top : most ≤ 9) where
             small = omega (arith, dn);
           }
 
-      go : ((w : ℕ) → w < 128 ^ (k + 1) → j + (k + 1) ≡ most → 1 ≤ j → headFrom most bound w (k + 1) xs ≡ number n rest → Found j w (k + 1) xs n rest)
+      go : ((w : ℕ) → w < 128 ^ (k + 1) → j + (k + 1) ≡ most → headFrom most bound w (k + 1) xs ≡ number n rest → Found j w (k + 1) xs n rest)
           → (x < 128) ⊎ (128 ≤ x) → Found (suc j) v k (x ∷ xs) n rest
       go ih (inl h) = final (below-or 0 x) (below-or 0 k) (below-or bound (v + x * 128 ^ k))
         where
           final : (0 < x) ⊎ (x ≤ 0) → (0 < k) ⊎ (k ≤ 0) → (bound < v + x * 128 ^ k) ⊎ (v + x * 128 ^ k ≤ bound) → Found (suc j) v k (x ∷ xs) n rest
-          final (inl z) y (inl b) = absurd (never (ap (after k xs) (last-over bound v k x (λ d. omega arith) refl b) ∙ sym (head-last v k x xs part h) ∙ q))
+          final (inl z) y (inl b) = absurd (never (ap (after k xs) (last-over bound v k x (λ d. omega arith) refl b) ∙ sym (head-last v k x xs part few h) ∙ q))
           final (inl z) y (inr b) = last h (λ d. z) b
-          final (inr z) (inl y) b = absurd (never (ap (after k xs) (last-zero bound v k x (omega arith) y) ∙ sym (head-last v k x xs part h) ∙ q))
+          final (inr z) (inl y) b = absurd (never (ap (after k xs) (last-zero bound v k x (omega arith) y) ∙ sym (head-last v k x xs part few h) ∙ q))
           final (inr z) (inr y) b = last h (λ d. absurd (omega arith)) (nothing (omega arith) (omega arith) hv)
             where
               nothing : x ≡ 0 → k ≡ 0 → v < 128 ^ k → v + x * 128 ^ k ≤ bound
@@ -183,31 +191,37 @@ module _ (most bound : ℕ) (top : most ≤ 9) where
           further : (k + 1 < most) ⊎ (most ≤ k + 1) → Found (suc j) v k (x ∷ xs) n rest
           further (inl l) =
               onward l
-              (ih (v + (x - 128) * 128 ^ k) (held-more v k (x - 128) hv (omega (arith, o 0))) (omega arith) (omega arith)
-              (sym (head-next v k x xs part h l) ∙ q))
-          further (inr l) = absurd (never (ap (after k xs) (more-many most v k x l) ∙ sym (head-more v k x xs part h) ∙ q))
+              (ih (v + (x - 128) * 128 ^ k) (held-more v k (x - 128) hv (omega (arith, o 0))) (omega arith)
+              (sym (head-next v k x xs part few h l) ∙ q))
+          further (inr l) = absurd (never (ap (after k xs) (more-many most v k x l) ∙ sym (head-more v k x xs part few h) ∙ q))
 
   -- ---- the theorem
 
-  module _ (some : 1 ≤ most) where
-    -- the octets of a number within the bounds are read as that number
-    pub complete : (n : ℕ) (rest : List ℕ) → Within most bound n → headOf most bound (groupsOf most n ++ rest) ≡ number n rest
-    complete n rest w =
-        let e : 0 + n * 128 ^ 0 ≡ n = omega arith in
-        fed most 0 0 n rest (omega arith) (omega arith) (w .groups) some (λ q. absurd (omega arith)) (omega (arith, w .small))
-        ∙ ap (λ (m : ℕ). number m rest) e
+  -- what is read as a number: its octets stand there, and it is within the bounds
+  pub sound : (xs : List ℕ) (n : ℕ) (rest : List ℕ) → ((i : ℕ) → getD xs i 0 < 256) → headOf most bound xs ≡ number n rest
+      → (xs ≡ groupsOf most n ++ rest) × Within most bound n
+  sound xs n rest o q =
+      let f = found xs most 0 0 n rest o (omega arith) (omega arith) q in
+      let e : f .other ≡ n = omega (arith, f .value) in
+      (f .text ∙ ap (λ (m : ℕ). groupsOf most m ++ rest) e, record { groups = rw e at (f .held); small = f .small })
 
-    -- nothing else is read as a number
-    pub sound : (xs : List ℕ) (n : ℕ) (rest : List ℕ) → ((i : ℕ) → getD xs i 0 < 256) → headOf most bound xs ≡ number n rest
-        → (xs ≡ groupsOf most n ++ rest) × Within most bound n
-    sound xs n rest o q =
-        let f = found xs most 0 0 n rest o (omega arith) (omega arith) some q in
-        let e : f .other ≡ n = omega (arith, f .value) in
-        (f .text ∙ ap (λ (m : ℕ). groupsOf most m ++ rest) e, record { groups = rw e at (f .held); small = f .small })
+  -- the octets of a number within the bounds are read as that number, where a group may stand at all
+  pub complete : 1 ≤ most → (n : ℕ) (rest : List ℕ) → Within most bound n → headOf most bound (groupsOf most n ++ rest) ≡ number n rest
+  complete some n rest w =
+      let e : 0 + n * 128 ^ 0 ≡ n = omega arith in
+      fed most 0 0 n rest (omega arith) (omega arith) (w .groups) some (λ q. absurd (omega arith)) (omega (arith, w .small))
+      ∙ ap (λ (m : ℕ). number m rest) e
 
-    -- two numbers within the bounds with one text are the same
-    pub unique : (n m : ℕ) → Within most bound n → Within most bound m → groupsOf most n ≡ groupsOf most m → n ≡ m
-    unique n m a b e =
-        let d : number n [] ≡ number m [] =
-        sym (complete n [] a) ∙ ap (λ (t : List ℕ). headOf most bound (t ++ [])) e ∙ complete m [] b in
-        cc
+  -- two numbers within the bounds with one text are the same
+  pub unique : (n m : ℕ) → Within most bound n → Within most bound m → groupsOf most n ≡ groupsOf most m → n ≡ m
+  unique n m a b e = go (below-or 0 most)
+    where
+      go : (0 < most) ⊎ (most ≤ 0) → n ≡ m
+      go (inl some) =
+          let d : number n [] ≡ number m [] =
+          sym (complete some n [] a) ∙ ap (λ (t : List ℕ). headOf most bound (t ++ [])) e ∙ complete some m [] b in
+          cc
+      go (inr z) =
+          let q : most ≡ 0 = omega arith in
+          let p : 128 ^ most ≡ 1 = rw q refl in
+          omega (arith, a .groups, b .groups)

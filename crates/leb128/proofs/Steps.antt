@@ -82,17 +82,26 @@ pub step-many : (most bound v k x : ℕ) → 9 ≤ k → Bad ≡ stepOf most bou
 unfolding stepOf
 step-many most bound v k x h = simp (le-ltb k 9 h)
 
-pub step-large : (most bound v k x : ℕ) → k < 9 → 128 ^ k ≤ v → Bad ≡ stepOf most bound v k x
+-- no group may follow
+pub step-full : (most bound v k x : ℕ) → most ≤ k → Bad ≡ stepOf most bound v k x
 unfolding stepOf
-step-large most bound v k x h l = simp (lt-ltb k 9 h, le-ltb v (128 ^ k) l)
+step-full most bound v k x l = go (below-or k 9)
+  where
+    go : (k < 9) ⊎ (9 ≤ k) → Bad ≡ stepOf most bound v k x
+    go (inl h) = simp (lt-ltb k 9 h, le-ltb k most l)
+    go (inr h) = step-many most bound v k x h
 
-pub step-last : (most bound v k x : ℕ) → Partial v k → x < 128 → lastGroup bound v k x ≡ stepOf most bound v k x
+pub step-large : (most bound v k x : ℕ) → k < 9 → k < most → 128 ^ k ≤ v → Bad ≡ stepOf most bound v k x
 unfolding stepOf
-step-last most bound v k x p h = simp (lt-ltb k 9 (p .few), lt-ltb v (128 ^ k) (p .held), lt-ltb x 128 h)
+step-large most bound v k x h f l = simp (lt-ltb k 9 h, lt-ltb k most f, le-ltb v (128 ^ k) l)
 
-pub step-more : (most bound v k x : ℕ) → Partial v k → 128 ≤ x → moreGroups most v k x ≡ stepOf most bound v k x
+pub step-last : (most bound v k x : ℕ) → Partial v k → k < most → x < 128 → lastGroup bound v k x ≡ stepOf most bound v k x
 unfolding stepOf
-step-more most bound v k x p h = simp (lt-ltb k 9 (p .few), lt-ltb v (128 ^ k) (p .held), le-ltb x 128 h)
+step-last most bound v k x p f h = simp (lt-ltb k 9 (p .few), lt-ltb k most f, lt-ltb v (128 ^ k) (p .held), lt-ltb x 128 h)
+
+pub step-more : (most bound v k x : ℕ) → Partial v k → k < most → 128 ≤ x → moreGroups most v k x ≡ stepOf most bound v k x
+unfolding stepOf
+step-more most bound v k x p f h = simp (lt-ltb k 9 (p .few), lt-ltb k most f, lt-ltb v (128 ^ k) (p .held), le-ltb x 128 h)
 
 -- ---- ranges of the answer
 
@@ -117,13 +126,14 @@ unfolding moreGroups
 more-ranged bound most v k x h = either bound k (ltb (k + 1) most) (More (v + (x - 128) * 128 ^ k)) Bad (λ z. h) (λ z. tt)
 
 step-ranged : (most bound v k x : ℕ) → Ranged bound k (stepOf most bound v k x)
-step-ranged most bound v k x = go (below-or k 9) (below-or v (128 ^ k)) (below-or x 128)
+step-ranged most bound v k x = go (below-or k 9) (below-or k most) (below-or v (128 ^ k)) (below-or x 128)
   where
-    go : (k < 9) ⊎ (9 ≤ k) → (v < 128 ^ k) ⊎ (128 ^ k ≤ v) → (x < 128) ⊎ (128 ≤ x) → Ranged bound k (stepOf most bound v k x)
-    go (inl h) (inl l) (inl s) = subst (Ranged bound k) (step-last most bound v k x (record { few = h; held = l }) s) (last-ranged bound v k x)
-    go (inl h) (inl l) (inr s) = subst (Ranged bound k) (step-more most bound v k x (record { few = h; held = l }) s) (more-ranged bound most v k x h)
-    go (inl h) (inr l) s = subst (Ranged bound k) (step-large most bound v k x h l) tt
-    go (inr h) l s = subst (Ranged bound k) (step-many most bound v k x h) tt
+    go : (k < 9) ⊎ (9 ≤ k) → (k < most) ⊎ (most ≤ k) → (v < 128 ^ k) ⊎ (128 ^ k ≤ v) → (x < 128) ⊎ (128 ≤ x) → Ranged bound k (stepOf most bound v k x)
+    go (inl h) (inl f) (inl l) (inl s) = subst (Ranged bound k) (step-last most bound v k x (record { few = h; held = l }) f s) (last-ranged bound v k x)
+    go (inl h) (inl f) (inl l) (inr s) = subst (Ranged bound k) (step-more most bound v k x (record { few = h; held = l }) f s) (more-ranged bound most v k x h)
+    go (inl h) (inl f) (inr l) s = subst (Ranged bound k) (step-large most bound v k x h f l) tt
+    go (inl h) (inr f) l s = subst (Ranged bound k) (step-full most bound v k x f) tt
+    go (inr h) f l s = subst (Ranged bound k) (step-many most bound v k x h) tt
 
 pub last-most : (most bound v k x n : ℕ) → stepOf most bound v k x ≡ Last n → n ≤ bound
 last-most most bound v k x n e = subst (Ranged bound k) e (step-ranged most bound v k x)

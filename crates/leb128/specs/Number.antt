@@ -34,9 +34,10 @@ lastGroup bound v k x = cond (eqb x 0 && ltb 0 k) Bad (cond (ltb bound (v + x * 
 unfoldable pub moreGroups : ℕ → ℕ → ℕ → ℕ → Group
 moreGroups most v k x = cond (ltb (k + 1) most) (More (v + (x - 128) * 128 ^ k)) Bad
 
--- the octet x behind k groups of the value v; Bad also where no k groups come to v
+-- the octet x behind k groups of the value v; Bad also where no more groups may stand there, or no k groups come to v
 unfoldable pub stepOf : ℕ → ℕ → ℕ → ℕ → ℕ → Group
-stepOf most bound v k x = cond (ltb k 9 && ltb v (128 ^ k)) (cond (ltb x 128) (lastGroup bound v k x) (moreGroups most v k x)) Bad
+stepOf most bound v k x =
+    cond (ltb k 9 && (ltb k most && ltb v (128 ^ k))) (cond (ltb x 128) (lastGroup bound v k x) (moreGroups most v k x)) Bad
 
 -- what stands at the start of some octets: a number, with the octets behind it; not enough octets, with the groups so far;
 -- no number

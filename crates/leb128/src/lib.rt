@@ -63,11 +63,14 @@ fn last_group(value: u64, groups: u8, octet: u8, bound: u64) -> Group
     Group::Last(number)
 }
 
-// The octet behind so many groups, which came to the value: at most `most` groups, a number of at most `bound`.
+// The octet behind so many groups, which came to the value: at most `most` groups, and nine; a number of at most `bound`.
 pub fn step(value: u64, groups: u8, octet: u8, most: u8, bound: u64) -> Group
     ensures { λ r. ⌜ r ≡ stepOf most bound value groups octet ⌝ }
 {
     if 9 <= groups {
+        return Group::Bad;
+    }
+    if most <= groups {
         return Group::Bad;
     }
     if weight(groups) <= value {
@@ -86,7 +89,7 @@ pub enum Found {
     Bad,
 }
 
-// The number at an index: at most `most` groups, and at most `bound`.
+// The number at an index: at most `most` groups, and nine; at most `bound`.
 pub fn number_at(octets: &[u8], at: usize, most: u8, bound: u64) -> Found
     ensures { λ r. ⌜ r ≡ foundAt most bound (now (octets .entry)) at ⌝ }
 {

@@ -1,5 +1,6 @@
 -- What the loop that takes a part of the input keeps: the octets taken so far give what is written, and where they end.
 use mathlib.Core.Path.{_≡_, refl, sym, ap, _∙_}
+use mathlib.Core.Logic.{_⊎_, inl, inr}
 use mathlib.Core.Bool.{Bool, true, false, cond, _&&_}
 use mathlib.Core.List.{List, [], _∷_, _++_, append-nil}
 use Prim.Native.Nat.{ℕ, zero, suc, _+_, _-_, _≤_, _<_, min}
@@ -11,7 +12,7 @@ use borrow.Author.Tests.{lt-ltb, le-ltb, le-leb, lt-leb}
 use Rattle.leb128.specs.Number.{stepOf}
 use Rattle.leb128.specs.declared.Group.{Group}
 use Rattle.leb128.specs.declared.Group.the-variants.{More, Last, Bad}
-use Rattle.leb128.proofs.Steps.{more-few, last-most}
+use Rattle.leb128.proofs.Steps.{below-or, more-few, last-most}
 use Rattle.listing.specs.Line.{payloadLine, endLine, cutLine}
 use Rattle.listing.specs.Listing.{Position, inLength, inPayload, broken, Turn, silent, emit, grouped, begin, behind, run, lastLine, following}
 use Rattle.listing.specs.Carried.{positionOf, Goes, Puts, placeOf, Ready, endsAt}
@@ -37,6 +38,8 @@ pub record Kept (n : ℕ) (w : Position) (input b₀ o₀ : List ℕ) (m v k lef
   pub b-long : length b ≡ length b₀
   pub o-long : length o ≡ length o₀
   pub says : run n w (take taken input) ≡ record { output = take written o; lines = m; position = placeOf v k left (take have b) }
+  -- there was room for a line before each octet taken
+  pub soon : (i : ℕ) → i < taken → length (run n w (take i input) .output) + 71 ≤ length o₀
   pub beyond : drop written o ≡ drop written o₀
   pub outside : drop 1400 b ≡ drop 1400 b₀
 
@@ -50,6 +53,7 @@ kept-start m v k left have input b o r = record {
   b-long = refl;
   o-long = refl;
   says = refl;
+  soon = λ i e. absurd (omega arith);
   beyond = refl;
   outside = refl;
 }
@@ -64,7 +68,7 @@ place-length v k zero p h = refl
 place-length v k (suc m) p h = absurd (omega arith)
 
 -- as a phase
-phase-payload : (left have : ℕ) (b : List ℕ) → 1 ≤ left → have + left ≤ 1400 → inPayload left (take have b) ≡ positionOf (phase.Payload left have) b
+pub phase-payload : (left have : ℕ) (b : List ℕ) → 1 ≤ left → have + left ≤ 1400 → inPayload left (take have b) ≡ positionOf (phase.Payload left have) b
 phase-payload left have b h l = simp (lt-ltb 0 left h, le-leb (have + left) 1400 l)
 
 module _ {n : ℕ} {w : Position} {input b₀ o₀ : List ℕ} {m v k left have taken written : ℕ} {b o : List ℕ}
@@ -75,7 +79,54 @@ module _ {n : ℕ} {w : Position} {input b₀ o₀ : List ℕ} {m v k left have 
       ap (run n w) (take-add taken c input)
       ∙ run-on n w (take taken input) (take c (drop taken input)) (take written o) m (placeOf v k left (take have b)) (h .says)
 
-  -- an end: what the loop answers
+  -- ---- room
+
+  -- the output so far is as long as what is written
+  out-long : length (run n w (take taken input) .output) ≡ written
+  out-long = ap (λ (t : Turn). length (t .output)) (h .says) ∙ length-take-le written o (omega (arith, h .wrote, h .o-long))
+
+  -- there is room for a line before the next octet
+  one-soon : written + 71 ≤ length o → (i : ℕ) → i < taken + 1 → length (run n w (take i input) .output) + 71 ≤ length o₀
+  one-soon r i l = go (below-or i taken)
+    where
+      go : (i < taken) ⊎ (taken ≤ i) → length (run n w (take i input) .output) + 71 ≤ length o₀
+      go (inl f) = h .soon i f
+      go (inr f) =
+          let q : i ≡ taken = omega arith in
+          let s : length (run n w (take i input) .output) ≡ written = ap (λ (j : ℕ). length (run n w (take j input) .output)) q ∙ out-long in
+          omega (arith, h .o-long)
+
+  -- and before each octet of a payload, up to its last
+  part-long : 1 ≤ left → (i : ℕ) → i < left → i ≤ length (drop taken input) → length (run n w (take (taken + i) input) .output) ≡ written
+  part-long s i l d =
+      ap (λ (t : Turn). length (t .output))
+      (on i
+      ∙ ap (λ (p : Position). behind (take written o) (run m p (take i (drop taken input)))) (place-payload v k left (take have b) s)
+      ∙ ap (behind (take written o)) (run-part m left (take have b) (take i (drop taken input)) (omega (arith, length-take-le i (drop taken input) d))))
+      ∙ ap length (append-nil (take written o))
+      ∙ length-take-le written o (omega (arith, h .wrote, h .o-long))
+
+  part-soon : 1 ≤ left → written + 71 ≤ length o → (c : ℕ) → c ≤ left → c ≤ length (drop taken input) → (i : ℕ) → i < taken + c
+      → length (run n w (take i input) .output) + 71 ≤ length o₀
+  part-soon s r c l d i f = go (below-or i taken)
+    where
+      go : (i < taken) ⊎ (taken ≤ i) → length (run n w (take i input) .output) + 71 ≤ length o₀
+      go (inl e) = h .soon i e
+      go (inr e) =
+          let q : i ≡ taken + (i - taken) = omega arith in
+          let z : length (run n w (take i input) .output) ≡ written =
+          ap (λ (j : ℕ). length (run n w (take j input) .output)) q ∙ part-long s (i - taken) (omega arith) (omega arith) in
+          omega (arith, h .o-long)
+
+  -- ---- an end: what the loop answers
+
+  -- such a phase is not behind a bad length
+  payload-broke : 1 ≤ left → positionOf (phase.Payload left have) b ≡ broken → ⊥
+  payload-broke l e =
+      let q : inPayload left (take have b) ≡ broken = phase-payload left have b l (h .fits) ∙ e in
+      let z : _≡_ {A = ℕ} 0 1 = cc in
+      omega arith
+
   pub kept-payload : {r : Progress} → r ≡ record { state = record { lines = m; phase = phase.Payload left have }; taken = taken; written = written }
       → 1 ≤ left → (taken < length input → length o₀ < written + 71) → Goes n w input b₀ o₀ r b o
   kept-payload e l s = rw e
@@ -84,6 +135,8 @@ module _ {n : ℕ} {w : Position} {input b₀ o₀ : List ℕ} {m v k left have 
         written = h .wrote;
         says = h .says ∙ ap (turn (take written o) m) (place-payload v k left (take have b) l ∙ phase-payload left have b l (h .fits));
         stops = s;
+        soon = λ i d. inl (h .soon i d);
+        broke = λ d. absurd (payload-broke l d);
         beyond = h .beyond;
         outside = h .outside;
       })
@@ -96,6 +149,8 @@ module _ {n : ℕ} {w : Position} {input b₀ o₀ : List ℕ} {m v k left have 
         written = h .wrote;
         says = h .says ∙ ap (turn (take written o) m) (place-length v k left (take have b) l);
         stops = s;
+        soon = λ i d. inl (h .soon i d);
+        broke = λ d. absurd (let z : _≡_ {A = ℕ} 0 1 = cc in omega arith);
         beyond = h .beyond;
         outside = h .outside;
       })
@@ -149,8 +204,8 @@ module _ {n : ℕ} {w : Position} {input b₀ o₀ : List ℕ} {m v k left have 
     pub kept-small : (len : ℕ) → g ≡ Last len → len ≤ 1400
     kept-small len q = last-most 2 1400 v k (getD input taken 0) len (sym e ∙ q)
 
-    pub kept-more : (u : ℕ) → g ≡ More u → Kept n w input b₀ o₀ m u (k + 1) left have (taken + 1) written b o
-    kept-more u q = record {
+    pub kept-more : (u : ℕ) → g ≡ More u → written + 71 ≤ length o → Kept n w input b₀ o₀ m u (k + 1) left have (taken + 1) written b o
+    kept-more u q room = record {
       took = omega arith;
       wrote = h .wrote;
       fits = h .fits;
@@ -162,13 +217,14 @@ module _ {n : ℕ} {w : Position} {input b₀ o₀ : List ℕ} {m v k left have 
           ∙ ap (λ (x : Group). behind (take written o) (grouped m k x)) q
           ∙ ap (λ (out : List ℕ). turn out m (inLength u (k + 1))) (append-nil (take written o))
           ∙ ap (turn (take written o) m) (sym (place-length u (k + 1) left (take have b) z));
+      soon = one-soon room;
       beyond = h .beyond;
       outside = h .outside;
     }
 
     -- a payload of some octets begins
-    pub kept-begin : (len : ℕ) → g ≡ Last len → 1 ≤ len → Kept n w input b₀ o₀ m 0 0 len 0 (taken + 1) written b o
-    kept-begin len q some = record {
+    pub kept-begin : (len : ℕ) → g ≡ Last len → 1 ≤ len → written + 71 ≤ length o → Kept n w input b₀ o₀ m 0 0 len 0 (taken + 1) written b o
+    kept-begin len q some room = record {
       took = omega arith;
       wrote = h .wrote;
       fits = omega (arith, kept-small len q);
@@ -181,6 +237,7 @@ module _ {n : ℕ} {w : Position} {input b₀ o₀ : List ℕ} {m v k left have 
           ∙ ap (behind (take written o)) (begins len some)
           ∙ ap (λ (out : List ℕ). turn out m (inPayload len [])) (append-nil (take written o))
           ∙ ap (turn (take written o) m) (sym (place-payload 0 0 len [] some));
+      soon = one-soon room;
       beyond = h .beyond;
       outside = h .outside;
     }
@@ -206,14 +263,15 @@ module _ {n : ℕ} {w : Position} {input b₀ o₀ : List ℕ} {m v k left have 
               ∙ ap (λ (x : Group). behind (take written o) (grouped m k x)) q
               ∙ ap (λ (i : ℕ). behind (take written o) (begin m i)) none
               ∙ emitted [] em d (sym (place-length 0 0 len [] (omega arith)));
+          soon = one-soon room;
           beyond = d .beyond;
           outside = h .outside;
         }
 
     -- a bad length
-    pub kept-bad : g ≡ Bad → {r : Progress} → r ≡ record { state = record { lines = m; phase = phase.Broken }; taken = length input; written = written }
-        → Goes n w input b₀ o₀ r b o
-    kept-bad q er = rw er
+    pub kept-bad : g ≡ Bad → written + 71 ≤ length o → {r : Progress}
+        → r ≡ record { state = record { lines = m; phase = phase.Broken }; taken = length input; written = written } → Goes n w input b₀ o₀ r b o
+    kept-bad q room er = rw er
         (record {
           taken = omega arith;
           written = h .wrote;
@@ -226,6 +284,8 @@ module _ {n : ℕ} {w : Position} {input b₀ o₀ : List ℕ} {m v k left have 
               ∙ ap (behind (take written o)) (stopped (getD input taken 0) (drop (suc taken) input) (sym q ∙ e))
               ∙ ap (λ (out : List ℕ). turn out m broken) (append-nil (take written o));
           stops = λ f. absurd (omega arith);
+          soon = λ i d. each i (below-or taken i);
+          broke = λ d. (refl, refl);
           beyond = h .beyond;
           outside = h .outside;
         })
@@ -235,6 +295,21 @@ module _ {n : ℕ} {w : Position} {input b₀ o₀ : List ℕ} {m v k left have 
 
         stopped : (x : ℕ) (ys : List ℕ) → Bad ≡ stepOf 2 1400 v k x → run m (inLength v k) (x ∷ ys) ≡ silent m broken
         stopped x ys d = ap (λ (t : Turn). behind (t .output) (run (t .lines) (t .position) ys)) (ap (grouped m k) (sym d)) ∙ run-broken m ys
+
+        -- behind the bad octet
+        past : (i : ℕ) → run n w (take (taken + suc i) input) .position ≡ broken
+        past i =
+            ap (λ (t : Turn). t .position)
+            (on (suc i)
+            ∙ ap (λ (p : Position). behind (take written o) (run m p (take (suc i) (drop taken input)))) (place-length v k left (take have b) z)
+            ∙ ap (λ (ys : List ℕ). behind (take written o) (run m (inLength v k) (take (suc i) ys))) (drop-cons input taken 0 l)
+            ∙ ap (behind (take written o)) (stopped (getD input taken 0) (take i (drop (suc taken) input)) (sym q ∙ e)))
+
+        each : (i : ℕ) → (taken < i) ⊎ (i ≤ taken) → (length (run n w (take i input) .output) + 71 ≤ length o₀) ⊎ (run n w (take i input) .position ≡ broken)
+        each i (inl f) =
+            let j : taken + suc (i - suc taken) ≡ i = omega arith in
+            inr (ap (λ (a : ℕ). run n w (take a input) .position) (sym j) ∙ past (i - suc taken))
+        each i (inr f) = inl (one-soon room i (omega arith))
 
   -- ---- a payload
 
@@ -280,8 +355,8 @@ module _ {n : ℕ} {w : Position} {input b₀ o₀ : List ℕ} {m v k left have 
     kept-all l = omega (arith, h .took)
 
     -- it is not whole
-    pub kept-part : 1 ≤ left - c → Kept n w input b₀ o₀ m v k (left - c) (have + c) (taken + c) written b₁ o
-    kept-part l = record {
+    pub kept-part : 1 ≤ left - c → written + 71 ≤ length o → Kept n w input b₀ o₀ m v k (left - c) (have + c) (taken + c) written b₁ o
+    kept-part l space = record {
       took = kept-took;
       wrote = h .wrote;
       fits = omega (arith, near, h .fits);
@@ -295,6 +370,7 @@ module _ {n : ℕ} {w : Position} {input b₀ o₀ : List ℕ} {m v k left have 
           ∙ ap (λ (i : ℕ). turn (take written o) m (inPayload (left - i) (take have b ++ take c (drop taken input)))) came
           ∙ ap (λ (p : List ℕ). turn (take written o) m (inPayload (left - c) p)) (sym front)
           ∙ ap (turn (take written o) m) (sym (place-payload v k (left - c) (take (have + c) b₁) l));
+      soon = part-soon some space c near inside;
       beyond = h .beyond;
       outside = outer;
     }
@@ -316,6 +392,7 @@ module _ {n : ℕ} {w : Position} {input b₀ o₀ : List ℕ} {m v k left have 
               ∙ ap (behind (take written o)) (run-whole m left (take have b) (take c (drop taken input)) some (omega (arith, came, near)))
               ∙ ap (λ (q : List ℕ). behind (take written o) (emit m q)) (sym front)
               ∙ emitted (take (have + c) b₁) em d (sym (place-length 0 0 (left - c) (take (have + c) b₁) l));
+          soon = part-soon some space c near inside;
           beyond = d .beyond;
           outside = outer;
         }
@@ -331,6 +408,8 @@ broken-goes n w input b o ew er = rw (ew, er)
       written = omega arith;
       says = run-broken n (take (length input) input);
       stops = λ f. absurd (omega arith);
+      soon = λ i d. inr (ap (λ (t : Turn). t .position) (run-broken n (take i input)));
+      broke = λ d. (refl, refl);
       beyond = refl;
       outside = refl;
     })

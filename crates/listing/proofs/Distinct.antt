@@ -56,8 +56,7 @@ rows-differ n m a b x y q =
     let z : _≡_ {A = ℕ} 114 111 = cc in
     omega arith
 
--- "a refused payload is never shown as an empty one": the line of a payload that is refused, whatever its number and that
--- of an accepted one
+-- the line of a payload that is refused is that of no accepted one, whatever the numbers of the two
 pub refused-line : (p q : List ℕ) (n m k place u : ℕ) (later fs : List Frame) → readOf p ≡ refused k place later → readOf q ≡ at u fs
     → payloadLine n p ≡ payloadLine m q → ⊥
 refused-line p q n m k place u later fs ep eq e =

@@ -102,7 +102,7 @@ view n (x ∷ xs) o = go (headOf 2 1400 (x ∷ xs)) refl
         (λ p rest l q. let d : short v k ≡ number (length p) (p ++ rest) = sym e ∙ ap (headOf 2 1400) q ∙ entry-head p rest l in let z : _≡_ {A = ℕ} 0 1 = cc in omega arith)
         (ap closed (run-head n 0 0 (x ∷ xs) ∙ ap (headTurn n) e)
         ∙ simp (ne-eqb k 0 (λ z. omega (arith, short-some 0 0 v k (x ∷ xs) e))))
-    go (number m rest) e = room (sound 2 1400 (omega arith) (omega arith) (x ∷ xs) m rest o e) (below-or (length rest) m)
+    go (number m rest) e = room (sound 2 1400 (omega arith) (x ∷ xs) m rest o e) (below-or (length rest) m)
       where
         room : ((x ∷ xs) ≡ groupsOf 2 m ++ rest) × Within 2 1400 m → (length rest < m) ⊎ (m ≤ length rest) → View n (x ∷ xs)
         room s (inr l) =

@@ -3,6 +3,7 @@ pub mod Digits
 pub mod Rows
 pub mod Runs
 pub mod Carrying
+pub mod Fixed
 pub mod Forward
 pub mod Entries
 pub mod Joined

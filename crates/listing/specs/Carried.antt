@@ -1,5 +1,6 @@
 -- What is carried from one part of the input to the next, and what the functions that take the parts promise.
 use mathlib.Core.Path.{_≡_}
+use mathlib.Core.Logic.{_⊎_}
 use mathlib.Core.Bool.{Bool, false, cond, _&&_}
 use mathlib.Core.List.{List, [], _++_}
 use Prim.Native.Nat.{ℕ, zero, suc, _+_, _≤_, _<_}
@@ -33,8 +34,8 @@ Puts o a xs e r = (e ≡ put o a xs) × (r ≡ a + length xs)
 abbrev pub fresh : State
 fresh = record { lines = 0; phase = phase.Length 0 0 }
 
--- the position that a phase stands for, where b holds the octets of the payload that came. A phase that no call made
--- is behind a bad length.
+-- the position that a phase stands for, where b holds the octets of the payload that came. A `Payload` that no call made
+-- is behind a bad length; a `Length` that none made is still in a length: its next octet is bad, and `close` looks only at k.
 abbrev pub positionOf : Phase → List ℕ → Position
 positionOf (phase.Length v k) b = inLength v k
 positionOf (phase.Payload left have) b = cond (ltb 0 left && leb (have + left) mostOctets) (inPayload left (take have b)) broken
@@ -64,7 +65,7 @@ tooShort n = record { number = shortBuffer; place = n; taken = 0; written = 0 }
 
 -- what a call did with a part of the input, from the position w behind n lines on: b′ and out′ are the payload's buffer and
 -- the output buffer afterwards. Of the first 1,400 octets of b′ those that the phase counts are the payload's; the others
--- are left free.
+-- are left free, and nothing else is (proofs/Fixed.antt).
 pub record Goes (n : ℕ) (w : Position) (input b out : List ℕ) (r : Progress) (b′ out′ : List ℕ) : Type 0 where
   pub taken : r .taken ≤ length input
   pub written : r .written ≤ length out
@@ -73,14 +74,18 @@ pub record Goes (n : ℕ) (w : Position) (input b out : List ℕ) (r : Progress)
       ≡ record { output = take (r .written) out′; lines = r .state .lines; position = positionOf (r .state .phase) b′ }
   -- the whole part is taken, unless there is no room for another line
   pub stops : r .taken < length input → length out < r .written + lineRoom
+  -- no octet is taken without room for a line before it, but behind a bad length
+  pub soon : (k : ℕ) → k < r .taken → (length (run n w (take k input) .output) + lineRoom ≤ length out) ⊎ (run n w (take k input) .position ≡ broken)
+  -- behind a bad length there is one phase, and the whole part is taken
+  pub broke : positionOf (r .state .phase) b′ ≡ broken → (r .state .phase ≡ phase.Broken) × (r .taken ≡ length input)
   -- what lies beyond is unchanged
   pub beyond : drop (r .written) out′ ≡ drop (r .written) out
   pub outside : drop mostOctets b′ ≡ drop mostOctets b
 
 -- what `list` promises: a payload's buffer of fewer than 1,400 octets is refused, and nothing changed
-abbrev pub Lists : State → List ℕ → List ℕ → List ℕ → Listed → List ℕ → List ℕ → Type 0
-Lists s input b out (listed.Went r) b′ out′ = (mostOctets ≤ length b) × Goes (s .lines) (positionOf (s .phase) b) input b out r b′ out′
-Lists s input b out (listed.Refused x) b′ out′ = (length b < mostOctets) × (listedReport (listed.Refused x) ≡ tooShort mostOctets) × (b′ ≡ b) × (out′ ≡ out)
+abbrev pub ListsPart : State → List ℕ → List ℕ → List ℕ → Listed → List ℕ → List ℕ → Type 0
+ListsPart s input b out (listed.Went r) b′ out′ = (mostOctets ≤ length b) × Goes (s .lines) (positionOf (s .phase) b) input b out r b′ out′
+ListsPart s input b out (listed.Refused x) b′ out′ = (length b < mostOctets) × (listedReport (listed.Refused x) ≡ tooShort mostOctets) × (b′ ≡ b) × (out′ ≡ out)
 
 -- what `close` promises: the last line, whatever the payload's buffer b holds; or there is too little room, and nothing changed
 abbrev pub Closes : State → List ℕ → Closed → List ℕ → Type 0

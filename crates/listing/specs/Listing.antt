@@ -15,7 +15,7 @@ use Rattle.listing.specs.Line.{payloadLine, endLine, cutLine}
 abbrev pub mostGroups : ℕ
 mostGroups = 2
 
--- "one over 1,400" is refused
+-- "one over 1,400" ends the list with `cut`
 abbrev pub mostOctets : ℕ
 mostOctets = 1400
 

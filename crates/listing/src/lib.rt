@@ -7,7 +7,7 @@ ghost use lib.ListN.{length, take};
 ghost use Rattle.listing.specs.Line.{pair, four, decimal, verdict, row, payloadLine, closing};
 ghost use Rattle.listing.specs.Listing.{following};
 ghost use Rattle.listing.specs.Entries.{wholeAt, payloadAt};
-ghost use Rattle.listing.specs.Carried.{Puts, Goes, Lists, Closes, Ready, positionOf, placeOf, endsAt, fresh};
+ghost use Rattle.listing.specs.Carried.{Puts, Goes, ListsPart, Closes, Ready, positionOf, placeOf, endsAt, fresh};
 use leb128::Found;
 use leb128::Group;
 use payload::Walked;
@@ -361,7 +361,7 @@ pub fn start() -> State
 // there. What it does not take is the start of the next part. The buffer for a payload, of at least 1,400 octets, is lent to
 // each call as the call before left it.
 pub fn list(state: State, input: &[u8], payload: &mut [u8], out: &mut [u8]) -> Listed
-    ensures { λ r. ⌜ Lists state (now (input .entry)) (now (payload .entry)) (now (out .entry)) r (now (payload .exit)) (now (out .exit)) ⌝ }
+    ensures { λ r. ⌜ ListsPart state (now (input .entry)) (now (payload .entry)) (now (out .entry)) r (now (payload .exit)) (now (out .exit)) ⌝ }
 {
     if payload.len() < MOST_OCTETS {
         return Listed::Refused(Refusal {

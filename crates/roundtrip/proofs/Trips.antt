@@ -19,7 +19,7 @@ use Rattle.payload.specs.declared.Reading.the-variants as reading
 use Rattle.payload.proofs.Seen.{reads-it}
 use Rattle.payload.proofs.Demanded.{hands-out, settle-few, settle-short, settle-right}
 use Rattle.writer.specs.Write.{writeOf, outOf, wrote, refuses}
-use Rattle.writer.specs.Write.{Outcome as Writing}
+use Rattle.writer.specs.Write.{Outcome as WriteOutcome}
 use Rattle.writer.specs.Answers.{answerOf}
 use Rattle.writer.specs.Promise.{Writes}
 use Rattle.writer.specs.declared.Writing.{Writing as Answer}
@@ -39,10 +39,10 @@ pub read-returns : (ns bs out r b r′ b′ : List ℕ) → r′ ≡ rowsBack (w
 read-returns ns bs out r b r′ b′ er eb fs d hp h =
     let w = writes-described ns bs fs (length out) d hp in
     let q = hands-out (octetsOf fs) r b fs (d .legal) refl h in (
-      er ∙ ap (λ (o : Writing). rowsBack o r b) w ∙ ap (λ (x : Outcome). x .rows) q
-        ∙ ap (λ (k : ℕ). rowsOf fs ++ drop k r) (sym (length-rows fs)) ∙ ap (λ (l : List ℕ). l ++ drop (length l) r) (sym (d .rows)),
-      eb ∙ ap (λ (o : Writing). bodiesBack o r b) w ∙ ap (λ (x : Outcome). x .bodies) q
-        ∙ ap (λ (l : List ℕ). l ++ drop (length l) b) (sym (d .bodies)),
+      er ∙ ap (λ (o : WriteOutcome). rowsBack o r b) w ∙ ap (λ (x : Outcome). x .rows) q
+          ∙ ap (λ (k : ℕ). rowsOf fs ++ drop k r) (sym (length-rows fs)) ∙ ap (λ (l : List ℕ). l ++ drop (length l) r) (sym (d .rows)),
+      eb ∙ ap (λ (o : WriteOutcome). bodiesBack o r b) w ∙ ap (λ (x : Outcome). x .bodies) q
+          ∙ ap (λ (l : List ℕ). l ++ drop (length l) b) (sym (d .bodies)),
     )
 
 -- what the reader and then the writer leave is the payload
@@ -53,7 +53,7 @@ write-returns p r b out r′ b′ left er eb el fs l e h hp =
     let rows : take (2 * length fs) r′ ≡ rowsOf fs = ap (take (2 * length fs)) (er ∙ ap (λ (x : Outcome). x .rows) q) ∙ take-at (rowsOf fs) (drop (2 * length fs) r) (2 * length fs) (length-rows fs) in
     let bodies : take (length (bodiesOf fs)) b′ ≡ bodiesOf fs = ap (take (length (bodiesOf fs))) (eb ∙ ap (λ (x : Outcome). x .bodies) q) ∙ take-at (bodiesOf fs) (drop (length (bodiesOf fs)) b) (length (bodiesOf fs)) refl in
     let w = writes-described (take (2 * length fs) r′) (take (length (bodiesOf fs)) b′) fs (length out) (record { legal = l; rows = rows; bodies = bodies }) (omega (arith, ap length e)) in
-    el ∙ ap (λ (x : Outcome). outBack (x .answer) r′ b′ out) q ∙ ap (λ (o : Writing). outOf o out) w ∙ ap (λ (y : List ℕ). y ++ drop (length y) out) e
+    el ∙ ap (λ (x : Outcome). outBack (x .answer) r′ b′ out) q ∙ ap (λ (o : WriteOutcome). outOf o out) w ∙ ap (λ (y : List ℕ). y ++ drop (length y) out) e
 
 -- ---- reading back
 
@@ -137,14 +137,14 @@ module _ (ns bs out : List ℕ) (w : Answer) (left : List ℕ) (h : Writes ns bs
   pub wrote-it : (n : ℕ) → w ≡ Written n → Wrote n
   wrote-it n e = go (writeOf ns bs (length out)) refl
     where
-      go : (o : Writing) → writeOf ns bs (length out) ≡ o → Wrote n
+      go : (o : WriteOutcome) → writeOf ns bs (length out) ≡ o → Wrote n
       go (refuses m place) q =
           let c : Refused (record { number = m; place = place }) ≡ Written n = sym (h .answer ∙ ap answerOf q) ∙ e in
           absurd (let z : _≡_ {A = ℕ} 0 1 = cc in omega arith)
       go (wrote fs) q =
           let c : Written (length (octetsOf fs)) ≡ Written n = sym (h .answer ∙ ap answerOf q) ∙ e in
           let m : length (octetsOf fs) ≡ n = cc in
-          let l : left ≡ octetsOf fs ++ drop (length (octetsOf fs)) out = h .leaves ∙ ap (λ (y : Writing). outOf y out) q in
+          let l : left ≡ octetsOf fs ++ drop (length (octetsOf fs)) out = h .leaves ∙ ap (λ (y : WriteOutcome). outOf y out) q in
           record {
             fs = fs;
             is = q;
@@ -167,8 +167,8 @@ module _ (ns bs out : List ℕ) (w : Answer) (left : List ℕ) (h : Writes ns bs
   pub back-refused : (x : Refusal) → w ≡ Refused x → (r b : List ℕ) → ReadBack ns bs out r b true left r b
   back-refused x e r b = go (writeOf ns bs (length out)) refl
     where
-      go : (o : Writing) → writeOf ns bs (length out) ≡ o → ReadBack ns bs out r b true left r b
-      go (refuses m place) q = back r b refl (ap (λ (y : Writing). rowsBack y r b) (sym q)) (ap (λ (y : Writing). bodiesBack y r b) (sym q))
+      go : (o : WriteOutcome) → writeOf ns bs (length out) ≡ o → ReadBack ns bs out r b true left r b
+      go (refuses m place) q = back r b refl (ap (λ (y : WriteOutcome). rowsBack y r b) (sym q)) (ap (λ (y : WriteOutcome). bodiesBack y r b) (sym q))
       go (wrote fs) q =
           let c : Written (length (octetsOf fs)) ≡ Refused x = sym (h .answer ∙ ap answerOf q) ∙ e in
           absurd (let z : _≡_ {A = ℕ} 0 1 = cc in omega arith)
@@ -177,11 +177,11 @@ module _ (ns bs out : List ℕ) (w : Answer) (left : List ℕ) (h : Writes ns bs
   back-written n e r b g =
       let x = wrote-it n e in
       back r b (g .agrees)
-      (g .rows ∙ ap (λ (p : List ℕ). readInto p r b .rows) (x .first) ∙ ap (λ (o : Writing). rowsBack o r b) (sym (x .is)))
-      (g .bodies ∙ ap (λ (p : List ℕ). readInto p r b .bodies) (x .first) ∙ ap (λ (o : Writing). bodiesBack o r b) (sym (x .is)))
+      (g .rows ∙ ap (λ (p : List ℕ). readInto p r b .rows) (x .first) ∙ ap (λ (o : WriteOutcome). rowsBack o r b) (sym (x .is)))
+      (g .bodies ∙ ap (λ (p : List ℕ). readInto p r b .bodies) (x .first) ∙ ap (λ (o : WriteOutcome). bodiesBack o r b) (sym (x .is)))
 
   module _ (p : List ℕ) (d : Describes p ns bs) where
-    described : (room : ℕ) {o : Writing} → writeOf (rowsOf (d .fs)) (bodiesOf (d .fs)) room ≡ o → writeOf ns bs room ≡ o
+    described : (room : ℕ) {o : WriteOutcome} → writeOf (rowsOf (d .fs)) (bodiesOf (d .fs)) room ≡ o → writeOf ns bs room ≡ o
     described room q = ap (λ (l : List ℕ). writeOf l bs room) (d .rows) ∙ ap (λ (l : List ℕ). writeOf (rowsOf (d .fs)) l room) (d .bodies) ∙ q
 
     -- it is refused for want of room alone

@@ -10,7 +10,7 @@ use Rattle.payload.specs.Promise.{Room}
 use Rattle.payload.specs.declared.Reading.{Reading}
 use Rattle.payload.specs.declared.Reading.the-variants as reading
 use Rattle.writer.specs.Write.{writeOf, outOf, wrote, refuses}
-use Rattle.writer.specs.Write.{Outcome as Writing}
+use Rattle.writer.specs.Write.{Outcome as WriteOutcome}
 use Rattle.writer.specs.Promise.{Describe}
 
 -- the answer r says whether two lists are the same
@@ -38,12 +38,12 @@ pub record WrittenAgain (ns bs out : List ℕ) (x : Bool) (left : List ℕ) : Ty
   pub leaves : left ≡ outOf (writeOf ns bs (length out)) out
 
 -- the rows that are lent for reading back, after a writing
-abbrev pub rowsBack : Writing → List ℕ → List ℕ → List ℕ
+abbrev pub rowsBack : WriteOutcome → List ℕ → List ℕ → List ℕ
 rowsBack (wrote fs) r b = readInto (octetsOf fs) r b .rows
 rowsBack (refuses n place) r b = r
 
 -- the bodies likewise
-abbrev pub bodiesBack : Writing → List ℕ → List ℕ → List ℕ
+abbrev pub bodiesBack : WriteOutcome → List ℕ → List ℕ → List ℕ
 bodiesBack (wrote fs) r b = readInto (octetsOf fs) r b .bodies
 bodiesBack (refuses n place) r b = b
 

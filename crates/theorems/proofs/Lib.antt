@@ -1,1 +1,2 @@
 pub mod NotEmpty
+pub mod Theorems

@@ -52,23 +52,23 @@ module _ (p r b : List ℕ) (o : Octets p) where
       let c : f ∷ fs ≡ f ∷ [] = ap (λ (gs : List Frame). f ∷ gs) (s .1) in
       (f, s .0, subst Legal c l, ap octetsOf (sym c) ∙ g)
 
-  -- "Blank is not quiet"
+  -- the theorem
   pub not-empty : (reportOf (readInto p r b .answer) .number ≡ 0 → ⊥) → NotEmpty p r b
   unfolding hostCount
   not-empty h = record {
     reading = λ e. h (ap (λ (a : Reading). reportOf a .number) e ∙ empty-read);
     count = λ e.
         let none : hostCount (readOf []) ≡ pos 0 = ap hostCount (reads-it [] [] empty-legal refl) in
-        blank (host-counted p (hostCount (readOf p)) o refl .only-empty (e ∙ none));
+        not-nothing (host-counted p (hostCount (readOf p)) o refl .only-empty (e ∙ none));
     time = timed (readOf p) refl (view p o);
     line = lined (readOf p) refl (view p o);
   }
     where
-      blank : p ≡ [] → ⊥
-      blank q = h (ap (λ (y : List ℕ). reportOf (readInto y r b .answer) .number) q ∙ empty-read)
+      not-nothing : p ≡ [] → ⊥
+      not-nothing q = h (ap (λ (y : List ℕ). reportOf (readInto y r b .answer) .number) q ∙ empty-read)
 
       some : (a : Accepted p) → a .fs ≡ [] → ⊥
-      some a e = blank (sym (a .gives) ∙ ap octetsOf e)
+      some a e = not-nothing (sym (a .gives) ∙ ap octetsOf e)
 
       timed : (w : Walk) → readOf p ≡ w → View p w → packetTicks (readOf p) ≡ packetTicks (readOf []) → NoiseAlone p
       timed _ q (over a) e = frames-time (a .fs) q (a .legal) (a .gives) (some a) e

@@ -1,4 +1,5 @@
--- "0 is the empty payload and nothing else": no reading, count, time or listed line of a refused payload is that of an empty one.
+-- "0 is the empty payload and nothing else": no reading, count or listed line of a refused payload is that of an empty one, and its
+-- time only where it is comfort noise alone.
 use mathlib.Core.Path.{_≡_}
 use mathlib.Core.List.{List, [], _∷_}
 use Prim.Native.Nat.{ℕ}

@@ -14,7 +14,7 @@ use Rattle.wire.proofs.Octets.{length-wire}
 use Rattle.wire.proofs.Complete.{octets-append, octets-snoc, middle, Snoc, none, snoc, from-end}
 use Rattle.wire.proofs.Sound.{sound, Ended, read-ends}
 use Rattle.payload.proofs.Seen.{reads-it}
-use Rattle.views.specs.View.{sizesOf, spot, placeOf, Part, frameOr, emptyPart, augmentationOf, NoRow, FrameView, AugmentationView}
+use Rattle.views.specs.View.{sizesOf, spot, placeOf, Part, frameOr, emptyPart, augmentationOf, NoRow, FrameView, AugmentationView, alone, shownOf}
 use Rattle.views.specs.declared.Sizes.{Sizes}
 use Rattle.views.specs.declared.Place.{Place}
 use Rattle.views.specs.declared.Place.the-variants.{At, Missing}
@@ -195,15 +195,6 @@ module _ {A : Type 0} (row : ℕ) (p : Part A) where
   }
 
 -- ---- the views of all rows, one after another, are the payload
-
--- a list as a part of a block of its own
-abbrev alone : List ℕ → Part (Unit {0})
-alone xs = record { block = tt; start = 0; octets = xs }
-
--- the octets of the first n views
-pub shownOf : List ℕ → List ℕ → ℕ → List ℕ
-shownOf p s zero = []
-shownOf p s (suc n) = shownOf p s n ++ frameOr (placeOf (readOf p) n) (alone p) (alone s) .octets
 
 module _ (p s : List ℕ) where
   upto : {gs : List Frame} → Snoc gs → (hs : List Frame) → Legal (gs ++ hs) → octetsOf (gs ++ hs) ≡ p → shownOf p s (length gs) ≡ octetsOf gs

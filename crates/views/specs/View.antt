@@ -117,3 +117,14 @@ FrameShown row pb pa p sb sa s rb ra r = FrameView row (part pb pa p) (part sb s
 -- the same of the code's pointers
 abbrev pub AugmentationShown : {A : Type 0} → ℕ → A → ℕ → List ℕ → A → ℕ → List ℕ → Type 0
 AugmentationShown row pb pa p rb ra r = AugmentationView row (part pb pa p) (part rb ra r)
+
+-- ---- the views of all rows, one after another
+
+-- a list as a part of a block of its own
+abbrev pub alone : List ℕ → Part (Unit {0})
+alone xs = record { block = tt; start = 0; octets = xs }
+
+-- the octets of the views of the first n rows, of the payload p and the stand-in s
+unfoldable pub shownOf : List ℕ → List ℕ → ℕ → List ℕ
+shownOf p s zero = []
+shownOf p s (suc n) = shownOf p s n ++ frameOr (placeOf (readOf p) n) (alone p) (alone s) .octets

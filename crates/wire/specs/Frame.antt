@@ -31,7 +31,7 @@ size bps600 = 7
 size noise = 2
 size tsvcis = 7
 
--- column "body": the most that the last of those octets may be in the body
+-- "Its last octet is at most 63, 1, 63 and 31 for kinds 1 to 4"; of a TSVCIS body its seventh, the last of the 2400 bps frame
 abbrev pub top : Kind → ℕ
 top bps2400 = 63
 top bps1200 = 1
@@ -67,7 +67,7 @@ ticks tsvcis = 180
 unfoldable pub ticksOfRate : ℕ → ℕ
 ticksOfRate r = cond (eqb r 2400) 180 (cond (eqb r 1200) 540 (cond (eqb r 600) 720 0))
 
--- "A frame is given by its kind, its TC and its body"
+-- "A frame is given by its kind, its TC .. and its body"
 pub record Frame : Type 0 where
   pub kind : Kind
   pub tc : ℕ

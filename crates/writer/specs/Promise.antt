@@ -1,4 +1,4 @@
--- Demand 2 of the writer, over wire's legal sequences alone, and what the public functions promise.
+-- What the public functions promise: of the writer when it accepts, over wire's legal sequences alone, and what is written then.
 use mathlib.Core.Path.{_≡_}
 use mathlib.Core.List.{List, _++_}
 use Prim.Native.Nat.{ℕ, _≤_}
@@ -18,7 +18,7 @@ pub record Describe (ns bs : List ℕ) (fs : List Frame) : Type 0 where
 
 -- the writer, asked to write ns and bs into `out`, gave these numbers and left `left` there: it accepts exactly if ns and bs describe
 -- a legal sequence and there is room for its octets; then those are written, first, and nothing beyond is changed. There is
--- no other such sequence. "A refusal reports 0 octets, and leaves all lent memory unchanged."
+-- no other such sequence. A refusal "reports .. 0 octets, and leaves all lent memory unchanged".
 pub record Exact (ns bs out : List ℕ) (r : Report) (left : List ℕ) : Type 0 where
   pub accepted : r .number ≡ 0 → (fs : List Frame) × Describe ns bs fs × (length (octetsOf fs) ≤ length out)
   pub written : (fs : List Frame) → Describe ns bs fs → length (octetsOf fs) ≤ length out

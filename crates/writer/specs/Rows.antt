@@ -6,7 +6,7 @@ use Prim.Native.Nat.{ℕ, _+_, _/_, _%_}
 use native.Mathlib.Decide.{ℕ-discrete, decLe}
 use lib.Dec.{ltb, eqb}
 use lib.ListN.{length}
-use Rattle.refusal.specs.Numbers.{tooLong, oddRows, unknownKind, wrongTc}
+use Rattle.refusal.specs.Numbers.{tooLong, oddRows, unknown, wrongTc}
 use Rattle.wire.specs.Frame.{Kind, bps2400, bps1200, bps600, noise, tsvcis, LegalTc, number, size, rate, wireLength}
 use Rattle.wire.specs.Walk.{Ending, bad, got, beside}
 
@@ -45,7 +45,7 @@ rowOf n t =
     (cond (eqb n (number bps1200)) (tcOf bps1200 t)
     (cond (eqb n (number bps600)) (tcOf bps600 t)
     (cond (eqb n (number noise)) (tcOf noise t)
-    (cond (eqb n (number tsvcis)) (tcOf tsvcis t) (bad unknownKind)))))
+    (cond (eqb n (number tsvcis)) (tcOf tsvcis t) (bad unknown)))))
 
 -- "m being the lengths of the bodies added up"
 abbrev pub bodyOctets : List Row → ℕ

@@ -42,7 +42,7 @@ bodiesChecked (held xs) bs room =
 unfoldable pub writeOf : List ℕ → List ℕ → ℕ → Outcome
 writeOf ns bs room = bodiesChecked (checkOf ns) bs room
 
--- "An accepted writing fills the first places, and changes nothing beyond"; "a refusal leaves all lent memory unchanged"
+-- "An accepted writing .. fills the first places .. and changes nothing beyond"; a refusal "leaves all lent memory unchanged"
 abbrev pub outOf : Outcome → List ℕ → List ℕ
 outOf (wrote fs) out = octetsOf fs ++ drop (length (octetsOf fs)) out
 outOf (refuses n place) out = out

@@ -235,7 +235,7 @@ fn too_long() -> RowCheck
     })
 }
 
-// "Row by row" over n rows; then 1 for the total.
+// The checks "row by row" of n rows; then 1 for the total.
 fn row_by_row(rows: &[u16], n: usize) -> RowCheck
     requires { ⌜ (length (now rows) ≡ 2 * n) × (n ≤ 200) ⌝ }
     ensures { λ r. ⌜ r ≡ rowAnswerOf (totalOf (rowByRow [] 0 (now (rows .entry)))) ⌝ }

@@ -1,7 +1,7 @@
 use Rattle.fmtp.proofs.differ.Statement.{statement}
 use Rattle.fmtp.proofs.differ.Tie as tie
 use borrow.Author.Tests.{eq-eqb, ne-eqb}
-use Rattle.fmtp.specs.Reader.{differTest}
+use Rattle.fmtp.specs.Steps.{differTest}
 
 returns : tie.Need-returns
 unfolding differTest

@@ -2,7 +2,7 @@ use borrow.Author.Needs.{needs}
 use Rattle.fmtp.proofs.digit_of.Statement.{statement}
 use Rattle.fmtp.proofs.digit_of.Tie as tie
 use borrow.Author.Tests.{lt-ltb, le-ltb}
-use Rattle.fmtp.specs.Reader.{digit}
+use Rattle.fmtp.specs.Steps.{digit}
 
 add-result : tie.Need-add-result
 add-result c = search needs

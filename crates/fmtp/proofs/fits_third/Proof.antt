@@ -2,7 +2,7 @@ use borrow.Author.Needs.{needs}
 use Rattle.fmtp.proofs.fits_third.Statement.{statement}
 use Rattle.fmtp.proofs.fits_third.Tie as tie
 use borrow.Author.Tests.{eq-eqb, ne-eqb}
-use Rattle.fmtp.specs.Settings.{thirdTest}
+use Rattle.fmtp.specs.Steps.{thirdTest}
 
 returns : tie.Need-returns
 unfolding thirdTest

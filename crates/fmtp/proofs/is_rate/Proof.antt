@@ -1,7 +1,7 @@
 use Rattle.fmtp.proofs.is_rate.Statement.{statement}
 use Rattle.fmtp.proofs.is_rate.Tie as tie
 use borrow.Author.Tests.{eq-eqb, ne-eqb}
-use Rattle.fmtp.specs.Settings.{rateTest}
+use Rattle.fmtp.specs.Steps.{rateTest}
 
 returns : tie.Need-returns
 unfolding rateTest

@@ -3,7 +3,7 @@ use Rattle.fmtp.proofs.is_rates.Statement.{statement}
 use Rattle.fmtp.proofs.is_rates.Tie as tie
 use borrow.Author.Tests.{eq-eqb, ne-eqb, not-true, not-false}
 use mathlib.Core.Path.{_∙_, sym}
-use Rattle.fmtp.specs.Settings.{ratesTest}
+use Rattle.fmtp.specs.Steps.{ratesTest}
 
 is-rate-requires : tie.Need-is-rate-requires
 is-rate-requires c κs = search needs

@@ -4,7 +4,7 @@ use Rattle.fmtp.proofs.limit_alone.Tie as tie
 use mathlib.Core.Path.{sym}
 use native.Mathlib.Omega.{arith}
 use borrow.Author.Tests.{eq-eqb, ne-eqb}
-use Rattle.fmtp.specs.Reader.{limitAlone}
+use Rattle.fmtp.specs.Steps.{limitAlone}
 use Rattle.fmtp.proofs.NumberLaws.{decimal-most}
 
 returns : tie.Need-returns

@@ -4,7 +4,7 @@ use Prim.Native.Nat.{_-_}
 use lib.ListN.{length, drop}
 use native.Mathlib.Omega.{arith}
 use borrow.Author.Needs.{needs}
-use Rattle.fmtp.specs.Reader.{numberAt}
+use Rattle.fmtp.specs.Steps.{numberAt}
 use Rattle.fmtp.proofs.NumberLaws.{Counted, counted-start, counted-behind, counted-zero, counted-over, counted-next, counted-end}
 
 abbrev Inv-loop : tie.InvT-loop

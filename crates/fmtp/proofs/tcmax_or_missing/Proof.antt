@@ -1,7 +1,7 @@
 use Rattle.fmtp.proofs.tcmax_or_missing.Statement.{statement}
 use Rattle.fmtp.proofs.tcmax_or_missing.Tie as tie
 use borrow.Author.Tests.{eq-eqb, ne-eqb}
-use Rattle.fmtp.specs.Reader.{orMissing}
+use Rattle.fmtp.specs.Steps.{orMissing}
 
 returns : tie.Need-returns
 unfolding orMissing

@@ -4,7 +4,7 @@ use Rattle.fmtp.proofs.text_len.Tie as tie
 use native.Mathlib.Omega.{arith}
 use mathlib.Core.Path.{ap}
 use lib.ListN.{length}
-use Rattle.fmtp.specs.Settings.{taken}
+use Rattle.fmtp.specs.Steps.{taken}
 use Rattle.fmtp.proofs.SettingsLaws.{rates-first, rates-second, rates-third}
 use Rattle.fmtp.proofs.RateLaws.{more-most, more-rate}
 use Rattle.fmtp.proofs.NumberLaws.{decimal-most}

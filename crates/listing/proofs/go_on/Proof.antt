@@ -77,7 +77,7 @@ same-length-2 : tie.Need-same-length-2 Inv-loop μ-loop
 same-length-2 c = c .before .before .before .before .before .before .before .before .before .before .loop .inv .o-long
 
 returns : tie.Need-returns Inv-loop μ-loop
-returns c = let l = c .before .if2 .taken in kept-payload (kept-part (c .before .before .before .before .before .before .before .before .before .before .loop .inv) (c .before .before .before .before .before .before .before .before .if1 .taken) (c .before .before .before .before .before .before .before .least .ensures) (copied (c .before .before .before .before)) l) (c .went .ensures) l (λ f. absurd (omega (arith, kept-all (c .before .before .before .before .before .before .before .before .before .before .loop .inv) (c .before .before .before .before .before .before .before .before .if1 .taken) (c .before .before .before .before .before .before .before .least .ensures) (copied (c .before .before .before .before)) l)))
+returns c = let l = c .before .if2 .taken in kept-payload (kept-part (c .before .before .before .before .before .before .before .before .before .before .loop .inv) (c .before .before .before .before .before .before .before .before .if1 .taken) (c .before .before .before .before .before .before .before .least .ensures) (copied (c .before .before .before .before)) l (c .before .before .before .before .before .before .before .before .before .loop-test .taken)) (c .went .ensures) l (λ f. absurd (omega (arith, kept-all (c .before .before .before .before .before .before .before .before .before .before .loop .inv) (c .before .before .before .before .before .before .before .before .if1 .taken) (c .before .before .before .before .before .before .before .least .ensures) (copied (c .before .before .before .before)) l)))
 
 next-line-requires : tie.Need-next-line-requires Inv-loop μ-loop
 next-line-requires c κs = search needs
@@ -128,7 +128,7 @@ same-length-6 : tie.Need-same-length-6 Inv-loop μ-loop
 same-length-6 c = c .before .before .before .before .before .before .before .before .loop .inv .o-long
 
 returns-3 : tie.Need-returns-3 Inv-loop μ-loop
-returns-3 c = kept-bad (c .before .before .before .before .before .before .before .before .loop .inv) (c .before .before .before .before .before .before .if1 .left) (omega (arith, c .before .before .before .before .before .before .before .before .loop .inv .took, c .before .before .before .before .before .if3 .left)) (c .before .before .before .step .ensures) (c .before .enum-told .given .1) (c .went3 .ensures)
+returns-3 c = kept-bad (c .before .before .before .before .before .before .before .before .loop .inv) (c .before .before .before .before .before .before .if1 .left) (omega (arith, c .before .before .before .before .before .before .before .before .loop .inv .took, c .before .before .before .before .before .if3 .left)) (c .before .before .before .step .ensures) (c .before .enum-told .given .1) (c .before .before .before .before .before .before .before .loop-test .taken) (c .went3 .ensures)
 
 enum-known-group : tie.Need-enum-known-group Inv-loop μ-loop
 enum-known-group c = search needs
@@ -143,7 +143,7 @@ loop-less-2 : tie.Need-loop-less-2 Inv-loop μ-loop
 loop-less-2 c = omega (arith, c .before .before .before .before .before .before .before .before .loop .inv .took, c .before .before .before .before .before .if3 .left)
 
 loop-again-2 : tie.Need-loop-again-2 Inv-loop μ-loop
-loop-again-2 c = kept-more (c .before .before .before .before .before .before .before .before .loop .inv) (c .before .before .before .before .before .before .if1 .left) (omega (arith, c .before .before .before .before .before .before .before .before .loop .inv .took, c .before .before .before .before .before .if3 .left)) (c .before .before .before .step .ensures) _ (c .before .group .given .1)
+loop-again-2 c = kept-more (c .before .before .before .before .before .before .before .before .loop .inv) (c .before .before .before .before .before .before .if1 .left) (omega (arith, c .before .before .before .before .before .before .before .before .loop .inv .took, c .before .before .before .before .before .if3 .left)) (c .before .before .before .step .ensures) _ (c .before .group .given .1) (c .before .before .before .before .before .before .before .loop-test .taken)
 
 enum-known-group-2 : tie.Need-enum-known-group-2 Inv-loop μ-loop
 enum-known-group-2 c = search needs
@@ -173,7 +173,7 @@ loop-less-4 : tie.Need-loop-less-4 Inv-loop μ-loop
 loop-less-4 c = omega (arith, c .before .before .before .before .before .before .before .before .before .loop .inv .took, c .before .before .before .before .before .before .if3 .left)
 
 loop-again-4 : tie.Need-loop-again-4 Inv-loop μ-loop
-loop-again-4 c = kept-begin (c .before .before .before .before .before .before .before .before .before .loop .inv) (c .before .before .before .before .before .before .before .if1 .left) (omega (arith, c .before .before .before .before .before .before .before .before .before .loop .inv .took, c .before .before .before .before .before .before .if3 .left)) (c .before .before .before .before .step .ensures) _ (c .before .before .group2 .given .1) (omega (arith, c .if4 .left))
+loop-again-4 c = kept-begin (c .before .before .before .before .before .before .before .before .before .loop .inv) (c .before .before .before .before .before .before .before .if1 .left) (omega (arith, c .before .before .before .before .before .before .before .before .before .loop .inv .took, c .before .before .before .before .before .before .if3 .left)) (c .before .before .before .before .step .ensures) _ (c .before .before .group2 .given .1) (omega (arith, c .if4 .left)) (c .before .before .before .before .before .before .before .before .loop-test .taken)
 
 went-requires-4 : tie.Need-went-requires-4 Inv-loop μ-loop
 went-requires-4 c κs = search needs

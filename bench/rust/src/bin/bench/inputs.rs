@@ -1,5 +1,7 @@
-//! What is measured: five mixes of payloads with their rows and bodies, setting texts and settings,
-//! 600 bps bodies and fields. The same in every run.
+//! What is measured: mixes of payloads with their rows and bodies, setting texts and settings, 600 bps bodies and fields.
+//! The same in every run.
+
+use safe::{payload, writer};
 
 /// Inputs of each kind in a mix.
 pub const INPUTS: usize = 64;
@@ -74,14 +76,19 @@ fn noise_and_600(prng: &mut Prng) -> Packet {
     packet(&rows, prng)
 }
 
-/// A payload of some mix with one octet changed; the writer's rows or bodies likewise.
-fn damaged(prng: &mut Prng) -> Packet {
-    let mut hurt = match prng.below(4) {
+/// A payload of one of the other mixes, the long one shorter.
+fn any(prng: &mut Prng) -> Packet {
+    match prng.below(4) {
         0 => packet(&[(1, 0)], prng),
         1 => packet(&[(5, 35); 5], prng),
         2 => packet(&[(1, 0); 40], prng),
         _ => noise_and_600(prng),
-    };
+    }
+}
+
+/// One octet of the payload changed, and one of the writer's rows or bodies. Most stay legal: a body's octets are free but for one.
+fn damaged(prng: &mut Prng) -> Packet {
+    let mut hurt = any(prng);
     let at = prng.below(hurt.payload.len());
     hurt.payload[at] = prng.next() as u8;
     if prng.below(2) == 0 {
@@ -92,6 +99,23 @@ fn damaged(prng: &mut Prng) -> Packet {
         hurt.bodies[at] = prng.next() as u8;
     }
     hurt
+}
+
+/// Damaged payloads that the reader refuses, each with rows and bodies that the writer refuses.
+fn refused(prng: &mut Prng) -> Packet {
+    let mut read = damaged(prng);
+    while payload::count(&read.payload) >= 0 {
+        read = damaged(prng);
+    }
+    let mut written = damaged(prng);
+    while writer::write(&written.rows, &written.bodies, &mut [0; 1400]).is_ok() {
+        written = damaged(prng);
+    }
+    Packet {
+        rows: written.rows,
+        bodies: written.bodies,
+        ..read
+    }
 }
 
 pub fn mixes() -> Vec<Mix> {
@@ -106,6 +130,7 @@ pub fn mixes() -> Vec<Mix> {
         mix("200 frames", |prng| packet(&[(1, 0); 200], prng)),
         mix("comfort noise and 600", noise_and_600),
         mix("damaged", damaged),
+        mix("refused", refused),
     ]
 }
 
