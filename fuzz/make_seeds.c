@@ -1,4 +1,4 @@
-/* Writes each line of seeds.txt as a file of octets into a directory. */
+/* Writes each line of seeds.txt that is no comment as a file of octets into a directory. */
 #include <stdio.h>
 #include <stdlib.h>
 #include <string.h>
@@ -23,19 +23,20 @@ static int write_seed(const char *line, FILE *out)
 int main(int argc, char **argv)
 {
     char line[1024], path[4096];
-    unsigned number = 0;
+    unsigned lines = 0, seeds = 0;
     FILE *in = argc == 3 ? fopen(argv[1], "r") : NULL;
     if (in == NULL) {
         fprintf(stderr, "usage: make_seeds seeds.txt directory\n");
         return 2;
     }
     while (fgets(line, sizeof line, in)) {
+        lines++;
         if (line[0] == '#')
             continue;
-        snprintf(path, sizeof path, "%s/seed-%02u", argv[2], ++number);
+        snprintf(path, sizeof path, "%s/seed-%02u", argv[2], ++seeds);
         FILE *out = fopen(path, "wb");
         if (out == NULL || !write_seed(line, out) || fclose(out) != 0) {
-            fprintf(stderr, "%s: line %u cannot be written\n", argv[1], number);
+            fprintf(stderr, "%s: line %u cannot be written as %s\n", argv[1], lines, path);
             return 1;
         }
     }

@@ -20,6 +20,7 @@ uint32_t second_refusal(const uint8_t *payload, size_t n, size_t *place);
 
 moult_writing second_write(const uint16_t *rows, size_t rows_n, const uint8_t *bodies,
                            size_t bodies_n, uint8_t *out, size_t out_n);
+moult_millis second_ptime(uint32_t rate, size_t frames);
 moult_settings_reading second_settings_read(const uint8_t *text, size_t n);
 moult_writing second_settings_write(moult_settings settings, uint8_t *out, size_t out_n);
 moult_writing second_unpack(uint8_t mode, const uint8_t *body, size_t body_n, uint16_t *fields,

@@ -1,9 +1,20 @@
-/* Settings and 600 bps fields, read a second time: see second.h. Setting texts are recognised by
+/* ptime, settings and 600 bps fields, read a second time: see second.h. Setting texts are known by
    writing out every text there is; fields are taken bit by bit. */
 #include "second.h"
 
 #include <stdio.h>
 #include <string.h>
+
+moult_millis second_ptime(uint32_t rate, size_t frames)
+{
+    /* A frame lasts 22.5, 67.5 or 90 ms. */
+    size_t halves = rate == 2400 ? 45 : rate == 1200 ? 135 : rate == 600 ? 180 : 0;
+    moult_millis refused = {12, 0, 0};
+    if (halves == 0 || frames < 1 || frames > 200)
+        return refused;
+    moult_millis accepted = {0, 0, halves * frames / 2 + halves * frames % 2};
+    return accepted;
+}
 
 static const char *const rate_lists[15] = {
     "2400",          "1200",          "600",           "2400,1200",     "2400,600",

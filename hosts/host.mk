@@ -109,7 +109,7 @@ FUZZ_C := fuzz/fuzz.c fuzz/second_payload.c fuzz/second_small.c
 fuzz: $(FUZZ_OUT)/fuzz $(FUZZ_OUT)/make_seeds
 	mkdir -p $(FUZZ_OUT)/corpus
 	$(FUZZ_OUT)/make_seeds fuzz/seeds.txt $(FUZZ_OUT)/corpus
-	$(FUZZ_OUT)/fuzz -max_total_time=$(SECONDS) -max_len=1500 -print_final_stats=1 \
+	$(FUZZ_OUT)/fuzz -max_total_time=$(SECONDS) -max_len=2048 -print_final_stats=1 \
 		-artifact_prefix=$(FUZZ_OUT)/ $(FUZZ_OUT)/corpus
 
 $(FUZZ_OUT)/fuzz: $(FUZZ_C) fuzz/second.h include/moult.h $(MOULT_LIB) FORCE

@@ -42,7 +42,8 @@ enum {
     MOULT_ACCEPTED = 0,
     MOULT_TOO_LONG = 1,                /* place: 1400 */
     MOULT_FRAME_CUT = 2,               /* place: unread */
-    MOULT_RESERVED_BITS = 3,           /* place: unread; writer and fields: index in the body */
+    MOULT_RESERVED_BITS = 3,           /* place: unread; writer: index in the lent bodies, counted
+                                          from their start; fields: index in the body */
     MOULT_LONG_COUNT_ZERO = 4,         /* place: unread */
     MOULT_LONG_COUNT_SHORT_RANGE = 5,  /* long count of 15 to 77; place: unread */
     MOULT_COMFORT_NOISE_NOT_LAST = 6,  /* place: unread; writer: row, from 0 */

@@ -91,6 +91,8 @@ moult_settings_reading c_settings_read(const uint8_t *text, size_t n)
     moult_settings_reading refused = {15, 0, {0, 0, 0, 0}};
     moult_settings_reading answer = {0, 0, {0, 0, 0, 0}};
     size_t at = 0;
+    /* An empty text has no item. Any other has one behind each `;` too, even where nothing is left
+       to read, which is refused: once begun, the loop is left from within. */
     while (at < n || at > 0) {
         size_t taken = read_item(text + at, n - at, &answer.settings);
         if (taken == 0)

@@ -1,7 +1,8 @@
 /* Counts and lists a file of payloads, each behind its length in groups of seven bits, low group
    first, 128 meaning "more", shortest form, at most two groups. For each payload a line: its
    number, "ok", frames and ticks; or its number, "refused", refusal number and place. Then "end"
-   (or "cut", where a length is bad or the file ends inside a payload) and the number of payloads. */
+   (or "cut", where a length is bad or the file ends inside a payload) and the number of payloads.
+   A file that cannot be read to its end gets no last line: a message says so, and the exit is 1. */
 #include "moult.h"
 
 #include <stdio.h>
@@ -33,7 +34,8 @@ static void print_line(unsigned long number, const uint8_t *payload, size_t leng
         printf("%lu ok %d %zu\n", number, (int)moult_count(payload, length), time.ticks);
 }
 
-static void list(FILE *in)
+/* Gives 0 if the file cannot be read to its end. */
+static int list(FILE *in)
 {
     static uint8_t payload[MOULT_MAX_OCTETS];
     unsigned long lines = 0;
@@ -46,7 +48,10 @@ static void list(FILE *in)
         }
         print_line(++lines, payload, length);
     }
+    if (ferror(in))
+        return 0;
     printf("%s %lu\n", answer == LENGTH_END ? "end" : "cut", lines);
+    return 1;
 }
 
 int main(int argc, char **argv)
@@ -55,14 +60,17 @@ int main(int argc, char **argv)
         fprintf(stderr, "usage: %s [file]\n", argv[0]);
         return 2;
     }
+    const char *name = argc == 2 ? argv[1] : "standard input";
     FILE *in = argc == 2 ? fopen(argv[1], "rb") : stdin;
-    if (in == NULL) {
-        perror(argv[1]);
-        return 1;
-    }
-    list(in);
-    int failed = ferror(in) || fflush(stdout) != 0;
-    if (in != stdin)
+    int failed = in == NULL || !list(in);
+    if (failed)
+        perror(name);
+    if (in != NULL && in != stdin)
         fclose(in);
-    return failed ? 1 : 0;
+    /* An earlier line may have failed though the last ones can be written. */
+    if (fflush(stdout) != 0 || ferror(stdout)) {
+        fprintf(stderr, "the list cannot be written\n");
+        failed = 1;
+    }
+    return failed;
 }

@@ -12,6 +12,10 @@ use crate::refusal::{Refusal, answer};
 /// assert_eq!(moult::unpack(1, &[1, 0, 0, 0, 0, 0, 0], &mut fields), Ok(11));
 /// assert_eq!(fields[0], 16); // Voicing: its highest bit is B_01
 /// ```
+///
+/// # Errors
+///
+/// In this order: `WrongMode`, `WrongLength` of the body, `ReservedBits`, `NumbersTooShort`.
 pub fn unpack(mode: u8, body: &[u8], fields: &mut [u16]) -> Result<usize, Refusal> {
     let writing = ffi::unpack(mode, body, fields);
     answer(writing.number, writing.place, writing.octets)
@@ -27,6 +31,10 @@ pub fn unpack(mode: u8, body: &[u8], fields: &mut [u16]) -> Result<usize, Refusa
 /// let refused = moult::pack(2, &[32, 0, 0, 0, 0, 0, 0, 0, 0, 0], &mut body);
 /// assert_eq!(refused, Err(Refusal { reason: Reason::FieldTooLarge, place: 0 }));
 /// ```
+///
+/// # Errors
+///
+/// In this order: `WrongMode`, `WrongLength` of the list, `FieldTooLarge`, `OctetsTooShort`.
 pub fn pack(mode: u8, fields: &[u16], out: &mut [u8]) -> Result<usize, Refusal> {
     let writing = ffi::pack(mode, fields, out);
     answer(writing.number, writing.place, writing.octets)

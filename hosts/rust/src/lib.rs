@@ -1,8 +1,9 @@
 //! Safe calls into the proved TSVCIS payload library (RFC 8817).
 //!
-//! Every function takes slices and answers with an enum: a value, or a [`Refusal`] with document
-//! 01's number and place. A refusal changes no lent memory; an acceptance changes the first places
-//! that it reports and nothing beyond. Nothing is allocated or kept.
+//! Most functions answer with a value or with a [`Refusal`], which has document 01's number and
+//! place; [`count`] gives the [`Reason`] alone. [`augmentation`], [`frame_or`] and [`frames`] show
+//! parts of the slices lent and refuse nothing. A refusal changes no lent memory; an acceptance
+//! changes the first places that it reports and nothing beyond. Nothing is allocated or kept.
 //!
 //! ```
 //! let payload = [0, 0, 0, 0, 0, 0, 0, 0x00, 0xA0]; // a 2400 bps frame, then comfort noise

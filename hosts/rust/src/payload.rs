@@ -20,6 +20,10 @@ pub struct Read {
 /// assert_eq!(moult::count(&[0; 14]), Ok(2));
 /// assert_eq!(moult::count(&[0; 6]), Err(moult::Reason::FrameCut));
 /// ```
+///
+/// # Errors
+///
+/// As [`read`], but for the room: [`Reason`] 1 to 8.
 pub fn count(payload: &[u8]) -> Result<usize, Reason> {
     let counted = ffi::count(payload);
     usize::try_from(counted).map_err(|_| Reason::of_number(counted.unsigned_abs()))
@@ -37,6 +41,12 @@ pub fn count(payload: &[u8]) -> Result<usize, Reason> {
 /// let refused = moult::read(&tsvcis, &mut [], &mut bodies);
 /// assert_eq!(refused, Err(Refusal { reason: Reason::NumbersTooShort, place: 1 }));
 /// ```
+///
+/// # Errors
+///
+/// In this order: `TooLong`; from the last frame to the first, for each, `FrameCut` (255 alone),
+/// `LongCountZero`, `LongCountShortRange`, `ReservedBits`, `FrameCut`, `ComfortNoiseNotLast`,
+/// `AugmentationNot2400`, `RatesMixed`; `NumbersTooShort`, `OctetsTooShort`.
 pub fn read(payload: &[u8], rows: &mut [u16], bodies: &mut [u8]) -> Result<Read, Refusal> {
     let reading = ffi::read(payload, rows, bodies);
     let read = Read {
@@ -57,6 +67,12 @@ pub fn read(payload: &[u8], rows: &mut [u16], bodies: &mut [u8]) -> Result<Read,
 /// let refused = moult::write(&[3, 0, 1, 0], &[0; 14], &mut out);
 /// assert_eq!(refused, Err(Refusal { reason: Reason::RatesMixed, place: 1 }));
 /// ```
+///
+/// # Errors
+///
+/// In this order: `OddRows`; `TooLong` for more than 200 rows; row by row `Unknown`, `WrongTc`,
+/// `ComfortNoiseNotLast`, `RatesMixed`; `TooLong` for the total; `WrongLength` of the bodies;
+/// `ReservedBits` at the first bad body end; `OctetsTooShort`.
 pub fn write(rows: &[u16], bodies: &[u8], out: &mut [u8]) -> Result<usize, Refusal> {
     let writing = ffi::write(rows, bodies, out);
     answer(writing.number, writing.place, writing.octets)

@@ -4,6 +4,13 @@
 use std::fmt;
 
 /// Why something is refused; the discriminant is document 01's number.
+///
+/// ```
+/// fn frames(payload: &[u8]) -> Result<usize, Box<dyn std::error::Error>> {
+///     Ok(moult::count(payload)?)
+/// }
+/// assert_eq!(frames(&[0; 6]).unwrap_err().to_string(), "refused 2: FrameCut");
+/// ```
 #[derive(Clone, Copy, Debug, PartialEq, Eq, Hash)]
 #[non_exhaustive]
 #[repr(u8)]
@@ -12,7 +19,8 @@ pub enum Reason {
     TooLong = 1,
     /// Frame cut at the front. Place: octets still unread.
     FrameCut = 2,
-    /// Reserved or foreign bits set. Place: unread; writer and fields: index in the body.
+    /// Reserved or foreign bits set. Place: unread; writer: index in the lent bodies, counted from
+    /// their start; fields: index in the body.
     ReservedBits = 3,
     /// Long count is 0. Place: unread.
     LongCountZero = 4,
@@ -81,6 +89,14 @@ impl Reason {
         *found.expect("the library's refusals are numbered 1 to 17")
     }
 }
+
+impl fmt::Display for Reason {
+    fn fmt(&self, f: &mut fmt::Formatter<'_>) -> fmt::Result {
+        write!(f, "refused {}: {self:?}", self.number())
+    }
+}
+
+impl std::error::Error for Reason {}
 
 /// A refusal: why, and where or how much.
 #[derive(Clone, Copy, Debug, PartialEq, Eq, Hash)]

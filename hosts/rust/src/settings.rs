@@ -40,6 +40,10 @@ impl Settings {
 /// assert_eq!((settings.first, settings.second, settings.tcmax), (2400, 0, 101));
 /// assert!(moult::read_settings(b"tcmax=").is_err());
 /// ```
+///
+/// # Errors
+///
+/// `WrongSettings`.
 pub fn read_settings(text: &[u8]) -> Result<Settings, Refusal> {
     let reading = ffi::settings_read(text);
     answer(reading.number, reading.place, reading.settings)
@@ -53,6 +57,10 @@ pub fn read_settings(text: &[u8]) -> Result<Settings, Refusal> {
 /// let octets = moult::write_settings(settings, &mut out).unwrap();
 /// assert_eq!(&out[..octets], b"bitrate=2400;tcmax=35");
 /// ```
+///
+/// # Errors
+///
+/// In this order: `WrongSettings`, `OctetsTooShort`.
 pub fn write_settings(settings: Settings, out: &mut [u8]) -> Result<usize, Refusal> {
     let writing = ffi::settings_write(settings, out);
     answer(writing.number, writing.place, writing.octets)

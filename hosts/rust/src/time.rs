@@ -19,6 +19,10 @@ pub struct Millis(pub usize);
 /// assert_eq!(moult::packet_ticks(&[0, 0xA0]), Ok(moult::Ticks(0)));
 /// assert!(moult::packet_ticks(&[0xFF]).is_err());
 /// ```
+///
+/// # Errors
+///
+/// As [`read`](crate::read), but for the room: [`Reason`](crate::Reason) 1 to 8.
 pub fn packet_ticks(payload: &[u8]) -> Result<Ticks, Refusal> {
     let time = ffi::packet_ticks(payload);
     answer(time.number, time.place, Ticks(time.ticks))
@@ -30,6 +34,10 @@ pub fn packet_ticks(payload: &[u8]) -> Result<Ticks, Refusal> {
 /// assert_eq!(moult::ptime(2400, 5), Ok(moult::Millis(113)));
 /// assert!(moult::ptime(2400, 201).is_err());
 /// ```
+///
+/// # Errors
+///
+/// `Unknown` for any other rate or number of frames.
 pub fn ptime(rate: u32, frames: usize) -> Result<Millis, Refusal> {
     let time = ffi::ptime(rate, frames);
     answer(time.number, time.place, Millis(time.millis))

@@ -2,9 +2,9 @@
 
 use crate::bit_table::{Table, table};
 use crate::guard::{Lent, number, octet};
-use crate::parts;
 use crate::prng::Prng;
 use crate::walk::Refusal;
+use crate::{LONGER, both, lengthened, wanted};
 
 const UNPACKED: usize = 250_000;
 const PACKED: usize = 250_000;
@@ -47,43 +47,21 @@ fn packed(mode: u8, fields: &[u16], room: usize) -> Result<Vec<u8>, Refusal> {
 fn compare_unpack(mode: u8, body: &[u8], room: usize, prng: &mut Prng) {
     let lent = Lent::holding(body, prng, octet);
     let mut fields = Lent::new(room, prng, number);
-    let got = parts(moult::unpack(mode, lent.shared(), fields.part()));
+    let got = both::unpack(mode, &lent, &mut fields);
+    let (answer, filled) = wanted(unpacked(mode, body, room));
+    assert_eq!(got, answer, "unpacking {mode} {body:02x?} to {room}");
     lent.unchanged();
-    match unpacked(mode, body, room) {
-        Ok(wanted) => {
-            assert_eq!(got, (0, 0, wanted.len()), "unpacking {mode} {body:02x?}");
-            fields.holds_only(&wanted);
-        }
-        Err((number, place)) => {
-            assert_eq!(
-                got,
-                (number, place, 0),
-                "unpacking {mode} {body:02x?} to {room}"
-            );
-            fields.unchanged();
-        }
-    }
+    fields.holds_only(&filled);
 }
 
 fn compare_pack(mode: u8, fields: &[u16], room: usize, prng: &mut Prng) {
     let lent = Lent::holding(fields, prng, number);
     let mut out = Lent::new(room, prng, octet);
-    let got = parts(moult::pack(mode, lent.shared(), out.part()));
+    let got = both::pack(mode, &lent, &mut out);
+    let (answer, body) = wanted(packed(mode, fields, room));
+    assert_eq!(got, answer, "packing {mode} {fields:?} to {room}");
     lent.unchanged();
-    match packed(mode, fields, room) {
-        Ok(wanted) => {
-            assert_eq!(got, (0, 0, 7), "packing {mode} {fields:?}");
-            out.holds_only(&wanted);
-        }
-        Err((number, place)) => {
-            assert_eq!(
-                got,
-                (number, place, 0),
-                "packing {mode} {fields:?} to {room}"
-            );
-            out.unchanged();
-        }
-    }
+    out.holds_only(&body);
 }
 
 fn a_mode(prng: &mut Prng) -> u8 {
@@ -153,6 +131,24 @@ fn corners() {
             compare_pack(mode, &vec![0; octets], 7, &mut prng);
             compare_pack(mode, &[0; 10], octets, &mut prng);
             compare_pack(mode, &[0; 11], octets, &mut prng);
+        }
+    }
+}
+
+/// Bodies, field lists and rooms that would do, or would not, if their lengths were cut.
+#[test]
+fn longer() {
+    let mut prng = Prng::new(45);
+    for by in LONGER {
+        for mode in 1..=3 {
+            let body = [1; 7];
+            let fields = unpacked(mode, &body, 11).expect("a body of 7 octets");
+            compare_unpack(mode, &lengthened(&body, by, 0), 11, &mut prng);
+            compare_pack(mode, &lengthened(&fields, by, 0), 7, &mut prng);
+            for short in 0..12 {
+                compare_unpack(mode, &body, short + by, &mut prng);
+                compare_pack(mode, &fields, short + by, &mut prng);
+            }
         }
     }
 }

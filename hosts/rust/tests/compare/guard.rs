@@ -6,6 +6,7 @@ use crate::prng::Prng;
 /// every alignment.
 const GUARD: usize = 24;
 
+#[derive(Clone, Debug, PartialEq)]
 pub struct Lent<T> {
     memory: Vec<T>,
     before: Vec<T>,

@@ -2,14 +2,19 @@
 //!
 //! Whether a payload is accepted, and with which frames, comes from `format`, which splits forwards;
 //! which refusal is given comes from `walk` and `writer`, which transcribe document 01's order.
+#![deny(unsafe_code)]
 
 mod bit_table;
+mod both;
 mod fields;
 mod format;
 mod guard;
 mod make;
 mod payloads;
 mod prng;
+/// The C ABI as the wrapper declares it: the wrapper itself drops what its enums have no place for.
+#[path = "../../src/ffi.rs"]
+mod raw;
 mod rows;
 mod setting_text;
 mod settings;
@@ -17,14 +22,25 @@ mod times;
 mod walk;
 mod writer;
 
-use moult::Refusal;
+use both::Answer;
+use moult::Settings;
+use walk::Refusal;
 
-/// Number and place of an answer, 0 and 0 where accepted, and its value.
-fn parts<T: Default>(answer: Result<T, Refusal>) -> (u8, usize, T) {
-    match answer {
-        Ok(value) => (0, 0, value),
-        Err(refusal) => (refusal.reason.number(), refusal.place, T::default()),
+/// The whole answer wanted of a function that fills one buffer, and what it is to put there.
+fn wanted<T>(filled: Result<Vec<T>, Refusal>) -> (Answer<usize>, Vec<T>) {
+    match filled {
+        Ok(filled) => ((0, 0, filled.len()), filled),
+        Err((number, place)) => ((number, place, 0), vec![]),
     }
+}
+
+/// A length kept in 8 or in 16 bits is the same with and without these.
+const LONGER: [usize; 2] = [1 << 8, 1 << 16];
+
+fn lengthened<T: Copy>(list: &[T], by: usize, fill: T) -> Vec<T> {
+    let mut longer = list.to_vec();
+    longer.resize(list.len() + by, fill);
+    longer
 }
 
 /// How often each refusal number was wanted: a comparison that never meets one shows nothing of it.
@@ -32,8 +48,8 @@ fn parts<T: Default>(answer: Result<T, Refusal>) -> (u8, usize, T) {
 struct Met([usize; 18]);
 
 impl Met {
-    fn note(&mut self, number: u8) {
-        self.0[usize::from(number)] += 1;
+    fn note(&mut self, number: u32) {
+        self.0[number as usize] += 1;
     }
 
     fn at_least(&self, times: usize, numbers: &[usize]) {

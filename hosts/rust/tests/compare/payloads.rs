@@ -3,8 +3,7 @@
 use crate::format::{Frame, legal_sequence, octets, ticks};
 use crate::guard::{Lent, number, octet};
 use crate::prng::Prng;
-use crate::{Met, make, parts, walk};
-use moult::Shown;
+use crate::{Answer, LONGER, Met, both, lengthened, make, rows, walk};
 
 type Make = fn(&mut Prng) -> Vec<u8>;
 
@@ -45,19 +44,19 @@ fn expected(payload: &[u8]) -> Expected {
 }
 
 impl Expected {
-    /// Number, place, and whether the buffers are filled, where this much room is lent.
-    fn reading(&self, rows_room: usize, bodies_room: usize) -> (u8, usize, bool) {
+    /// The whole answer, with rows and body octets, where this much room is lent.
+    fn reading(&self, rows_room: usize, bodies_room: usize) -> Answer<(usize, usize)> {
         if let Err((number, place)) = self.answer {
-            return (number, place, false);
+            return (number, place, (0, 0));
         }
         let frames = self.rows.len() / 2;
         if rows_room / 2 < frames {
-            return (9, frames, false);
+            return (9, frames, (0, 0));
         }
         if bodies_room < self.bodies.len() {
-            return (10, self.bodies.len(), false);
+            return (10, self.bodies.len(), (0, 0));
         }
-        (0, 0, true)
+        (0, 0, (frames, self.bodies.len()))
     }
 }
 
@@ -68,96 +67,72 @@ fn compare_read(
     rows_room: usize,
     bodies_room: usize,
     prng: &mut Prng,
-) -> u8 {
+) -> u32 {
     let lent = Lent::holding(payload, prng, octet);
     let mut rows = Lent::new(rows_room, prng, number);
     let mut bodies = Lent::new(bodies_room, prng, octet);
-    let got = moult::read(lent.shared(), rows.part(), bodies.part());
-    let (number, place, filled) = want.reading(rows_room, bodies_room);
-    let (got_number, got_place, read) = parts(got.map(|read| (read.rows, read.octets)));
-    assert_eq!(
-        (got_number, got_place),
-        (number, place),
-        "reading {payload:02x?}"
-    );
+    let got = both::read(&lent, &mut rows, &mut bodies);
+    let wanted = want.reading(rows_room, bodies_room);
+    assert_eq!(got, wanted, "reading {payload:02x?}");
     lent.unchanged();
-    if filled {
-        assert_eq!(
-            read,
-            (want.rows.len() / 2, want.bodies.len()),
-            "reading {payload:02x?}"
-        );
-        rows.holds_only(&want.rows);
-        bodies.holds_only(&want.bodies);
-    } else {
-        rows.unchanged();
-        bodies.unchanged();
-    }
+    let (number, _, (rows_read, octets_read)) = wanted;
+    rows.holds_only(&want.rows[..2 * rows_read]);
+    bodies.holds_only(&want.bodies[..octets_read]);
     number
 }
 
 fn compare_count_and_ticks(payload: &[u8], want: &Expected, prng: &mut Prng) {
     let lent = Lent::holding(payload, prng, octet);
-    let count = moult::count(lent.shared());
-    let time = parts(moult::packet_ticks(lent.shared()).map(|ticks| ticks.0));
+    let counted = both::count(&lent);
+    let time = both::packet_ticks(&lent);
     lent.unchanged();
-    match &want.answer {
+    let (count, wanted) = match &want.answer {
         Ok(frames) => {
-            assert_eq!(count, Ok(frames.len()), "count of {payload:02x?}");
             let total = frames.iter().map(|f| ticks(f.kind)).sum();
-            assert_eq!(time, (0, 0, total), "ticks of {payload:02x?}");
+            (frames.len() as i32, (0, 0, total))
         }
-        Err((number, place)) => {
-            let counted = count.map_err(|reason| reason.number());
-            assert_eq!(counted, Err(*number), "count of {payload:02x?}");
-            assert_eq!(time, (*number, *place, 0), "ticks of {payload:02x?}");
-        }
+        Err((number, place)) => (-(*number as i32), (*number, *place, 0)),
+    };
+    assert_eq!(counted, count, "count of {payload:02x?}");
+    assert_eq!(time, wanted, "ticks of {payload:02x?}");
+}
+
+/// A row's own octets or the stand-in, and the row's augmentation.
+fn views(frames: &[Frame], row: usize, stand_in_octets: usize) -> (both::Part, both::Part) {
+    let Some(frame) = frames.get(row) else {
+        return ((1, 0, stand_in_octets), (0, 0, 0));
+    };
+    let before = octets(&frames[..row]).len();
+    let own = (0, before, octets(&frames[row..=row]).len());
+    match usize::from(frame.tc) {
+        0 => (own, (0, 0, 0)),
+        tc => (own, (0, before + 7, tc)),
     }
 }
 
-/// Where a part starts within a lent buffer.
-fn start_within(part: &[u8], buffer: &[u8]) -> usize {
-    part.as_ptr() as usize - buffer.as_ptr() as usize
-}
-
-fn compare_views(payload: &[u8], want: &Expected, row: usize, prng: &mut Prng) {
+fn compare_views(
+    payload: &[u8],
+    want: &Expected,
+    row: usize,
+    stand_in_octets: usize,
+    prng: &mut Prng,
+) {
     let frames = want.answer.as_deref().unwrap_or_default();
     let lent = Lent::holding(payload, prng, octet);
-    let stand_in_octets = prng.below(20);
     let stand_in = Lent::new(stand_in_octets, prng, octet);
-    let augmentation = moult::augmentation(lent.shared(), row);
-    let shown = moult::frame_or(lent.shared(), row, stand_in.shared());
-    let start = start_within(augmentation, lent.shared());
+    let got = (
+        both::frame_or(&lent, row, &stand_in),
+        both::augmentation(&lent, row),
+    );
+    let wanted = views(frames, row, stand_in_octets);
+    assert_eq!(got, wanted, "row {row} of {payload:02x?}");
     lent.unchanged();
     stand_in.unchanged();
-    let Some(frame) = frames.get(row) else {
-        assert_eq!(
-            (start, augmentation.len()),
-            (0, 0),
-            "row {row} of {payload:02x?}"
-        );
-        assert_eq!(shown, Shown::StandIn(stand_in.shared()));
-        return;
-    };
-    let before = octets(&frames[..row]).len();
-    let own = octets(&frames[row..=row]);
-    let tc = frame.tc as usize;
-    let wanted = if tc == 0 { (0, 0) } else { (before + 7, tc) };
-    assert_eq!(
-        (start, augmentation.len()),
-        wanted,
-        "row {row} of {payload:02x?}"
-    );
-    assert_eq!(shown, Shown::Frame(&own), "row {row} of {payload:02x?}");
-    assert_eq!(start_within(shown.octets(), lent.shared()), before);
 }
 
 fn compare_writing_back(payload: &[u8], want: &Expected, prng: &mut Prng) {
-    let out_octets = payload.len() + prng.below(3);
-    let mut out = Lent::new(out_octets, prng, octet);
-    let written = moult::write(&want.rows, &want.bodies, out.part());
-    assert_eq!(written, Ok(payload.len()), "writing {payload:02x?}");
-    out.holds_only(payload);
+    let room = payload.len() + prng.below(3);
+    rows::compare_to(Ok(payload.to_vec()), &want.rows, &want.bodies, room, prng);
 }
 
 /// A room around what is needed: short by a little, just enough, or more.
@@ -170,7 +145,7 @@ fn room_around(needed: usize, prng: &mut Prng) -> usize {
 }
 
 fn rows_to_view(frames: usize, prng: &mut Prng) -> Vec<usize> {
-    let far = prng.pick(&[usize::MAX, usize::MAX / 2, 200, 1400, 1 << 32]);
+    let far = prng.pick(&[usize::MAX, usize::MAX / 2, 200, 1400, 1 << 16, 1 << 32]);
     let mut rows = vec![0, frames, far];
     if frames > 0 {
         rows.extend([frames - 1, prng.below(frames)]);
@@ -194,7 +169,8 @@ fn compare(payload: &[u8], met: &mut Met, prng: &mut Prng) {
     met.note(compare_read(payload, &want, rows_room, bodies_room, prng));
     let frames = want.rows.len() / 2;
     for row in rows_to_view(frames, prng) {
-        compare_views(payload, &want, row, prng);
+        let stand_in_octets = prng.below(20);
+        compare_views(payload, &want, row, stand_in_octets, prng);
     }
     if want.answer.is_ok() {
         compare_writing_back(payload, &want, prng);
@@ -256,6 +232,28 @@ fn far_too_long() {
         compare(&vec![0; length], &mut met, &mut prng);
         compare(&vec![255; length], &mut met, &mut prng);
     }
+}
+
+/// Payloads, rooms, rows and stand-ins that would do, or would not, if their lengths were cut.
+#[test]
+fn longer() {
+    let mut prng = Prng::new(12);
+    let mut met = Met::default();
+    for by in LONGER {
+        for _ in 0..200 {
+            let payload = make::legal_payload(&mut prng);
+            let want = expected(&payload);
+            let (rows, bodies) = (want.rows.len(), want.bodies.len());
+            let short = rows.saturating_sub(1) + by;
+            compare_read(&payload, &want, short, bodies, &mut prng);
+            let short = bodies.saturating_sub(1) + by;
+            compare_read(&payload, &want, rows, short, &mut prng);
+            let row = prng.below(rows / 2 + 1);
+            compare_views(&payload, &want, row + by, row + by, &mut prng);
+            compare(&lengthened(&payload, by, 0), &mut met, &mut prng);
+        }
+    }
+    met.at_least(200, &[1]);
 }
 
 #[test]

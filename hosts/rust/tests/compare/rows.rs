@@ -3,40 +3,36 @@
 use crate::format::{Frame, base_octets, octets};
 use crate::guard::{Lent, number, octet};
 use crate::prng::Prng;
-use crate::{Met, make, parts, writer};
+use crate::walk::Refusal;
+use crate::{LONGER, Met, both, lengthened, make, wanted, writer};
 
 const LEGAL: usize = 100_000;
 const DAMAGED: usize = 300_000;
 const RANDOM: usize = 100_000;
 
-/// Compares one writing; gives the refusal number wanted, 0 where accepted.
-fn compare(rows: &[u16], bodies: &[u8], room: usize, prng: &mut Prng) -> u8 {
+/// Compares one writing with the octets or the refusal wanted; gives the number, 0 where accepted.
+pub fn compare_to(
+    written: Result<Vec<u8>, Refusal>,
+    rows: &[u16],
+    bodies: &[u8],
+    room: usize,
+    prng: &mut Prng,
+) -> u32 {
     let lent_rows = Lent::holding(rows, prng, number);
     let lent_bodies = Lent::holding(bodies, prng, octet);
     let mut out = Lent::new(room, prng, octet);
-    let got = moult::write(lent_rows.shared(), lent_bodies.shared(), out.part());
+    let got = both::write(&lent_rows, &lent_bodies, &mut out);
+    let (answer, payload) = wanted(written);
+    assert_eq!(got, answer, "writing {rows:?} {bodies:02x?} to {room}");
     lent_rows.unchanged();
     lent_bodies.unchanged();
-    match writer::written(rows, bodies, room) {
-        Ok(payload) => {
-            assert_eq!(
-                parts(got),
-                (0, 0, payload.len()),
-                "writing {rows:?} {bodies:02x?}"
-            );
-            out.holds_only(&payload);
-            0
-        }
-        Err((number, place)) => {
-            assert_eq!(
-                parts(got),
-                (number, place, 0),
-                "writing {rows:?} {bodies:02x?} to {room}"
-            );
-            out.unchanged();
-            number
-        }
-    }
+    out.holds_only(&payload);
+    answer.0
+}
+
+fn compare(rows: &[u16], bodies: &[u8], room: usize, prng: &mut Prng) -> u32 {
+    let written = writer::written(rows, bodies, room);
+    compare_to(written, rows, bodies, room, prng)
 }
 
 fn of_frames(frames: &[Frame]) -> (Vec<u16>, Vec<u8>) {
@@ -196,6 +192,23 @@ fn totals_around_the_limit() {
             for room in [1394, total - 1, total, 1406] {
                 compare(&rows, &bodies, room, &mut prng);
             }
+        }
+    }
+}
+
+/// Rows, bodies and rooms that would do, or would not, if their lengths were cut.
+#[test]
+fn longer() {
+    let mut prng = Prng::new(27);
+    for by in LONGER {
+        for _ in 0..200 {
+            let frames = make::legal(&mut prng);
+            let (rows, bodies) = of_frames(&frames);
+            let needed = octets(&frames).len();
+            compare(&lengthened(&rows, by, 0), &bodies, needed, &mut prng);
+            compare(&rows, &lengthened(&bodies, by, 0), needed, &mut prng);
+            let short = needed.saturating_sub(1) + by;
+            compare(&rows, &bodies, short, &mut prng);
         }
     }
 }

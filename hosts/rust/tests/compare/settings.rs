@@ -1,57 +1,46 @@
 //! Settings read and written, texts and settings legal and damaged.
 
 use crate::guard::{Lent, octet};
-use crate::parts;
 use crate::prng::Prng;
 use crate::setting_text::{Values, joined, rate_lists, read, written};
-use moult::Settings;
+use crate::walk::Refusal;
+use crate::{LONGER, both, lengthened, wanted};
 
 const DAMAGED: usize = 250_000;
 const RANDOM: usize = 100_000;
 const UNFIT: usize = 100_000;
 
-fn settings(values: Values) -> Settings {
-    let [first, second, third, tcmax] = values;
-    Settings {
-        first,
-        second,
-        third,
-        tcmax,
-    }
-}
-
 fn compare_read(text: &[u8], prng: &mut Prng) {
     let lent = Lent::holding(text, prng, octet);
-    let got = moult::read_settings(lent.shared());
+    let got = both::read_settings(&lent);
     lent.unchanged();
-    let values = got.map(|s| [s.first, s.second, s.third, s.tcmax]);
     let wanted = match read(text) {
         Some(values) => (0, 0, values),
         None => (15, 0, [0; 4]),
     };
-    assert_eq!(
-        parts(values),
-        wanted,
-        "reading {:?}",
-        String::from_utf8_lossy(text)
-    );
+    assert_eq!(got, wanted, "reading {:?}", String::from_utf8_lossy(text));
+}
+
+fn written_to(room: usize, values: Values) -> Result<Vec<u8>, Refusal> {
+    let text = written(values).ok_or((15, 0))?;
+    if room < text.len() {
+        return Err((10, text.len()));
+    }
+    Ok(text.into_bytes())
 }
 
 fn compare_write(values: Values, room: usize, prng: &mut Prng) {
     let mut out = Lent::new(room, prng, octet);
-    let got = parts(moult::write_settings(settings(values), out.part()));
-    match written(values) {
-        None => assert_eq!(got, (15, 0, 0), "writing {values:?}"),
-        Some(text) if room < text.len() => {
-            assert_eq!(got, (10, text.len(), 0), "writing {values:?}")
-        }
-        Some(text) => {
-            assert_eq!(got, (0, 0, text.len()), "writing {values:?}");
-            out.holds_only(text.as_bytes());
-            return;
-        }
-    }
-    out.unchanged();
+    let got = both::write_settings(values, &mut out);
+    let (answer, text) = wanted(written_to(room, values));
+    assert_eq!(got, answer, "writing {values:?} to {room}");
+    out.holds_only(&text);
+}
+
+fn values_of(rates: &[u16], tcmax: u16) -> Values {
+    let mut values = [0, 0, 0, tcmax];
+    values[..rates.len()].copy_from_slice(rates);
+    values
 }
 
 fn any_case(text: &str, prng: &mut Prng) -> String {
@@ -99,10 +88,8 @@ fn legal() {
             let bitrate = format!("bitrate={}", joined(&list));
             compare_read(format!("{bitrate};tcmax={tcmax}").as_bytes(), &mut prng);
             compare_read(format!("tcmax={tcmax};{bitrate}").as_bytes(), &mut prng);
-            let mut values = [0, 0, 0, tcmax];
-            values[..list.len()].copy_from_slice(&list);
             let room = prng.within(18, 34);
-            compare_write(values, room, &mut prng);
+            compare_write(values_of(&list, tcmax), room, &mut prng);
         }
     }
 }
@@ -202,16 +189,44 @@ fn unfit_settings() {
     }
 }
 
+/// Every number at each of the four places, beside one, two and three rates.
+#[test]
+fn every_number() {
+    let mut prng = Prng::new(37);
+    for rates in [&[2400, 1200, 600][..], &[600, 2400], &[1200]] {
+        for place in 0..4 {
+            let mut values = values_of(rates, 35);
+            for number in 0..=u16::MAX {
+                values[place] = number;
+                compare_write(values, 31, &mut prng);
+            }
+        }
+    }
+}
+
+/// Texts and rooms that would do, or would not, if their lengths were cut.
+#[test]
+fn longer() {
+    let mut prng = Prng::new(38);
+    for by in LONGER {
+        for _ in 0..200 {
+            let text = legal_text(&mut prng);
+            let fill = prng.pick(b"\0 0;,");
+            compare_read(&lengthened(text.as_bytes(), by, fill), &mut prng);
+            let short = prng.below(31) + by;
+            compare_write([2400, 1200, 600, 255], short, &mut prng);
+        }
+    }
+}
+
 /// Every room from none to more than enough.
 #[test]
 fn rooms() {
     let mut prng = Prng::new(36);
     for list in rate_lists() {
         for tcmax in [1, 10, 255] {
-            let mut values = [0, 0, 0, tcmax];
-            values[..list.len()].copy_from_slice(&list);
             for room in 0..36 {
-                compare_write(values, room, &mut prng);
+                compare_write(values_of(&list, tcmax), room, &mut prng);
             }
         }
     }

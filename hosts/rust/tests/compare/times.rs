@@ -1,6 +1,6 @@
 //! ptime at every number of frames: the least whole number of milliseconds that is enough.
 
-use crate::parts;
+use crate::{Answer, both};
 
 /// Half milliseconds of a frame: 22.5, 67.5 and 90 ms (RFC 8817, section 3.3).
 fn half_millis(rate: u32) -> Option<usize> {
@@ -12,34 +12,34 @@ fn half_millis(rate: u32) -> Option<usize> {
     }
 }
 
-fn expected(rate: u32, frames: usize) -> (u8, usize, usize) {
+fn expected(rate: u32, frames: usize) -> Answer<usize> {
     match half_millis(rate) {
         Some(half) if (1..=200).contains(&frames) => (0, 0, (half * frames).div_ceil(2)),
         _ => (12, 0, 0),
     }
 }
 
+/// Numbers of frames that would be few, or none, in 16 or 32 bits or as ticks in 64.
+const FAR: [usize; 9] = [
+    1 << 16,
+    (1 << 16) + 5,
+    1 << 32,
+    (1 << 32) + 5,
+    1 << 63,
+    usize::MAX / 180 + 1,
+    usize::MAX / 540 + 1,
+    usize::MAX / 720 + 1,
+    usize::MAX,
+];
+
+/// Every rate of 16 bits, and ones that would be a rate in 16 or 24.
 #[test]
 fn ptime() {
-    let rates = [
-        0,
-        1,
-        599,
-        600,
-        601,
-        1199,
-        1200,
-        1201,
-        2399,
-        2400,
-        2401,
-        4800,
-        u32::MAX,
-    ];
-    let far = [400, 1 << 32, (1 << 32) + 5, usize::MAX / 2, usize::MAX];
-    for rate in rates {
-        for frames in (0..=260).chain(far) {
-            let got = parts(moult::ptime(rate, frames).map(|millis| millis.0));
+    let far_rates = [1 << 16, 1 << 24, 1 << 31].map(|high| [high + 600, high + 1200, high + 2400]);
+    let far_rates = far_rates.into_iter().flatten();
+    for rate in (0..=65_536).chain(far_rates).chain([u32::MAX]) {
+        for frames in (0..=300).chain(FAR) {
+            let got = both::ptime(rate, frames);
             assert_eq!(got, expected(rate, frames), "{frames} frames at {rate}");
         }
     }

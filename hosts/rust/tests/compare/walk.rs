@@ -3,7 +3,7 @@
 use crate::format::MOST_OCTETS;
 
 /// Number and place.
-pub type Refusal = (u8, usize);
+pub type Refusal = (u32, usize);
 
 pub fn refusal(payload: &[u8]) -> Option<Refusal> {
     if payload.len() > MOST_OCTETS {
@@ -26,7 +26,7 @@ pub fn refusal(payload: &[u8]) -> Option<Refusal> {
 }
 
 /// The frame that the last octet names: its octets and rate, or the number of its refusal.
-fn frame_at_end(unread: &[u8], later: bool, rate: u32) -> Result<(usize, u32), u8> {
+fn frame_at_end(unread: &[u8], later: bool, rate: u32) -> Result<(usize, u32), u32> {
     let left = unread.len();
     let last = unread[left - 1];
     let long = last == 255;
