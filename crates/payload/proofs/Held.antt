@@ -8,7 +8,7 @@ use lib.Bits.{bitAnd}
 use lib.Dec.{eqb, ltb}
 use lib.ListN.{length, take, length-append, length-set}
 use borrow.Author.Tests.{lt-ltb, le-ltb}
-use Rattle.wire.specs.Frame.{Frame, Kind, bps2400, bps1200, bps600, noise, tsvcis, LegalTc, Octets, number, size, rate, wireLength, bodiesOf}
+use Rattle.wire.specs.Frame.{Frame, Kind, bps2400, bps1200, bps600, noise, tsvcis, LegalTc, Octets, number, size, rate, countOf, wireLength, bodiesOf}
 use Rattle.wire.specs.Walk.{Ending, bad, got, lastFrame, own, before, turn, next, frameAt, run, readOf, at, shapeOf, foundOf}
 use Rattle.wire.specs.Step.{allowed, barred, barredAs}
 use Rattle.wire.specs.declared.Shape.{Shape}
@@ -40,6 +40,7 @@ pub record Sized (u : ℕ) (x : Shape) : Type 0 where
   pub room : x .wire ≤ u
   pub some : 2 ≤ x .wire
   pub body : x .body ≤ x .wire
+  pub count : x .count ≤ x .wire
   pub based : 1 ≤ x .size
   pub less : x .tc < 256
   pub base : x .size ≤ x .body
@@ -65,6 +66,7 @@ sized p u k t w = record {
   room = w .room;
   some = omega (arith, size-pos k);
   body = omega arith;
+  count = omega arith;
   based = omega (arith, size-pos k);
   less = tc-most k t (w .tc);
   base = omega arith;
@@ -72,14 +74,14 @@ sized p u k t w = record {
   low = low-shape k t (w .tc);
 }
 
--- u octets are unread; n frames behind them are read, m of them coder frames, which have o octets of bodies and allow the bits b
+-- u octets are unread; n frames behind them are read, m of them coder frames, whose bodies and the unread octets are o together, and
+-- which allow the bits b
 pub record Held (p : List ℕ) (u n o m b : ℕ) : Type 0 where
   pub later : List Frame
   pub fuel : ℕ
   pub enough : u ≤ fuel
   pub frames : n ≡ length later
-  pub octets : o ≡ length (bodiesOf later)
-  pub inside : o + u ≤ length p
+  pub octets : o ≡ u + length (bodiesOf later)
   pub coders : m ≡ codersOf later
   pub most : m ≤ n
   pub bits : b ≡ allowed later
@@ -91,15 +93,14 @@ pub too-long : (p : List ℕ) → 1400 < length p → walked.Refused (refuse 1 1
 unfolding readOf
 too-long p h = simp (lt-ltb 1400 (length p) h)
 
-pub held-start : (p : List ℕ) → length p ≤ 1400 → {b : ℕ} → b ≡ allowed [] → Held p (length p) 0 0 0 b
+pub held-start : (p : List ℕ) → length p ≤ 1400 → {b : ℕ} → b ≡ allowed [] → Held p (length p) 0 (length p) 0 b
 unfolding readOf
 held-start p h e = record {
   later = [];
   fuel = length p;
   enough = omega arith;
   frames = refl;
-  octets = refl;
-  inside = omega arith;
+  octets = omega arith;
   coders = refl;
   most = omega arith;
   bits = e;
@@ -111,7 +112,8 @@ held-start p h e = record {
 pub held-end : (p : List ℕ) (u n o m b : ℕ) → Held p u n o m b → u ≤ 0 → walked.Whole (record { frames = n; octets = o; before = b; coders = m }) ≡ walkedOf (readOf p)
 held-end p u n o m b h z =
     let e : u ≡ 0 = omega arith in
-    rw (← (h .same), e, stay (h .fuel) p (h .later), h .frames, h .octets, h .bits, h .coders)
+    let q : o ≡ length (bodiesOf (h .later)) = omega (arith, h .octets) in
+    rw (← (h .same), e, stay (h .fuel) p (h .later), h .frames, q, h .bits, h .coders)
 
 module _ (p : List ℕ) (u n o m b : ℕ) (h : Held p u n o m b) (pos : 1 ≤ u) where
   here : Ending
@@ -147,21 +149,20 @@ module _ (p : List ℕ) (u n o m b : ℕ) (h : Held p u n o m b) (pos : 1 ≤ u)
     held-sized = rw (sh .is) (sized p u (sh .kind) (sh .tc) whole)
 
     next-held : (k : Kind) (t : ℕ) → here ≡ got k t → Whole p u k t → (q : ℕ) → q ≡ m + cond (ltb 0 (rate k)) 1 0
-        → Held p (u - wireLength k t) (n + 1) (o + (size k + t)) q (before k)
+        → Held p (u - wireLength k t) (n + 1) (o - length (countOf k t)) q (before k)
     next-held k t i w q c = go (h .fuel) (h .enough) (h .same)
       where
         body : length (frameAt p (u - wireLength k t) k t .body) ≡ size k + t
         body = simp length-set (length-base p u k t os (omega (arith, h .few)) w)
 
-        go : (f : ℕ) → u ≤ f → run f p (at u (h .later)) ≡ readOf p → Held p (u - wireLength k t) (n + 1) (o + (size k + t)) q (before k)
+        go : (f : ℕ) → u ≤ f → run f p (at u (h .later)) ≡ readOf p → Held p (u - wireLength k t) (n + 1) (o - length (countOf k t)) q (before k)
         go zero l r = absurd (omega arith)
         go (suc f) l r = record {
           later = frameAt p (u - wireLength k t) k t ∷ h .later;
           fuel = f;
           enough = omega (arith, size-pos k);
           frames = omega (arith, h .frames);
-          octets = simp length-append (omega (arith, h .octets, body));
-          inside = omega (arith, h .inside, w .room);
+          octets = simp length-append (omega (arith, h .octets, body, w .room));
           coders = omega (arith, c, h .coders);
           most = omega (arith, c, h .most, one-most k);
           bits = refl;
@@ -170,11 +171,11 @@ module _ (p : List ℕ) (u n o m b : ℕ) (h : Held p u n o m b) (pos : 1 ≤ u)
           same = ap (run f p) (sym (turns (got k t) i)) ∙ r;
         }
 
-    held-got : (q : ℕ) → q ≡ m + cond (ltb 0 (x .rate)) 1 0 → Held p (u - x .wire) (n + 1) (o + x .body) q (x .before)
+    held-got : (q : ℕ) → q ≡ m + cond (ltb 0 (x .rate)) 1 0 → Held p (u - x .wire) (n + 1) (o - x .count) q (x .before)
     held-got q c = rw (sh .is) (next-held (sh .kind) (sh .tc) (sh .ends) whole q (c ∙ ap (λ (y : Shape). m + cond (ltb 0 (y .rate)) 1 0) (sh .is)))
 
-    pub held-coder : 0 < x .rate → Held p (u - x .wire) (n + 1) (o + x .body) (m + 1) (x .before)
+    pub held-coder : 0 < x .rate → Held p (u - x .wire) (n + 1) (o - x .count) (m + 1) (x .before)
     held-coder l = held-got (m + 1) (simp (lt-ltb 0 (x .rate) l))
 
-    pub held-noise : x .rate ≤ 0 → Held p (u - x .wire) (n + 1) (o + x .body) m (x .before)
+    pub held-noise : x .rate ≤ 0 → Held p (u - x .wire) (n + 1) (o - x .count) m (x .before)
     held-noise l = held-got m (simp (le-ltb 0 (x .rate) l) (omega arith))

@@ -47,7 +47,8 @@ fn walk_back(payload: &[u8]) -> Walked
 {
     let mut unread = payload.len();
     let mut frames: usize = 0;
-    let mut octets: usize = 0;
+    // Those unread, and of those read all that are no count: so a kind without augmentation changes nothing here.
+    let mut octets = payload.len();
     let mut coders: u32 = 0;
     let mut allowed = wire::anything();
     while 0 < unread {
@@ -62,7 +63,7 @@ fn walk_back(payload: &[u8]) -> Walked
             Found::Got(shape) => {
                 unread -= shape.wire;
                 frames += 1;
-                octets += shape.body;
+                octets -= shape.count as usize;
                 if 0 < shape.rate {
                     coders += 1;
                 }

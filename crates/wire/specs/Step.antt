@@ -15,7 +15,7 @@ use Rattle.wire.specs.declared.Found.the-variants.{Bad, Got}
 
 -- the numbers of a frame whose base is all of it
 abbrev pub plainShape : ℕ → ℕ → ℕ → ℕ → ℕ → ℕ → Shape
-plainShape n k c s o b = record { kind = n; tc = 0; size = k; code = c; rate = s; own = o; before = b; wire = k; body = k }
+plainShape n k c s o b = record { kind = n; count = 0; tc = 0; size = k; code = c; rate = s; own = o; before = b; wire = k; body = k }
 
 -- a frame of these numbers with augmentation, if u unread octets hold it whole and it stands behind a 2400 bps frame
 unfoldable pub basedShape : List ℕ → ℕ → Shape → Found

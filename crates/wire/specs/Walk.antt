@@ -6,7 +6,7 @@ use Prim.Native.Nat.{ℕ, zero, suc, _+_, _-_}
 use lib.Dec.{ltb, eqb}
 use lib.ListN.{length, getD, set, take, drop}
 use Rattle.refusal.specs.Numbers.{tooLong, cutFrame, foreignBits, zeroCount, longCount, noiseNotLast, notBehind2400, mixedRates}
-use Rattle.wire.specs.Frame.{Frame, Kind, bps2400, bps1200, bps600, noise, tsvcis, number, size, code, rate, isShort, wireLength}
+use Rattle.wire.specs.Frame.{Frame, Kind, bps2400, bps1200, bps600, noise, tsvcis, number, size, code, rate, isShort, countOf, wireLength}
 use Rattle.wire.specs.declared.Shape.{Shape}
 use Rattle.wire.specs.declared.Found.{Found}
 use Rattle.wire.specs.declared.Found.the-variants.{Bad, Got}
@@ -133,6 +133,7 @@ rateOf b = cond (eqb b 1) 2400 (cond (eqb b 2) 600 (cond (eqb b 4) 1200 0))
 abbrev pub shapeOf : Kind → ℕ → Shape
 shapeOf k t = record {
   kind = number k;
+  count = length (countOf k t);
   tc = t;
   size = size k;
   code = code k;

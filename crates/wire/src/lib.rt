@@ -16,11 +16,13 @@ pub const PLAIN_600: u16 = 3;
 // The octets of comfort noise.
 const NOISE_OCTETS: usize = 2;
 
-// A frame's numbers: kind and TC as in a row, octets of its base, rate code bits, rate (0 of comfort noise), its own bit and the
-// bits of what may stand before it, octets on the wire and those of its body among them. The bits 1, 2 and 4 are a coder frame
-// of 2400, 600 and 1200 bps, 8 is comfort noise. (Where rate follows before, the compiler makes one number of the two.)
+// A frame's numbers: kind as in a row, octets of its count, TC as in a row, octets of its base, rate code bits, rate (0 of comfort
+// noise), its own bit and the bits of what may stand before it, octets on the wire and those of its body among them. The bits 1,
+// 2 and 4 are a coder frame of 2400, 600 and 1200 bps, 8 is comfort noise. (Where rate follows before, the compiler makes one
+// number of the two.)
 pub struct Shape {
     pub kind: u16,
+    pub count: u16,
     pub tc: usize,
     pub size: usize,
     pub code: u8,
@@ -87,6 +89,7 @@ fn plain(kind: u16, size: usize, code: u8, rate: u32, own: u32, before: u32) -> 
 {
     Shape {
         kind,
+        count: 0,
         tc: 0,
         size,
         code,
@@ -129,6 +132,7 @@ fn shape_tsvcis(tc: usize, count: usize) -> Shape
 {
     Shape {
         kind: 5,
+        count: count as u16,
         tc,
         size: 7,
         code: 0,

@@ -43,8 +43,11 @@ sub-unread c = frame (c .before .before) .room
 add-frames : tie.Need-add-frames Inv-loop μ-loop
 add-frames c = omega (arith, c .before .before .before .before .before .before .before .loop .inv .few, c .before .before .before .before .before .before .before .loop .inv .short)
 
-add-octets : tie.Need-add-octets Inv-loop μ-loop
-add-octets c = let w = frame (c .before .before .before) in omega (arith, w .body, w .room, c .before .before .before .before .before .before .before .before .loop .inv .inside, c .before .before .before .before .before .before .before .before .loop .inv .short)
+cast-octets : tie.Need-cast-octets Inv-loop μ-loop
+cast-octets c = search needs
+
+sub-octets : tie.Need-sub-octets Inv-loop μ-loop
+sub-octets c = let w = frame (c .before .before .before) in omega (arith, w .count, w .room, c .before .before .before .before .before .before .before .before .loop .inv .octets)
 
 add-coders : tie.Need-add-coders Inv-loop μ-loop
 add-coders c = omega (arith, c .before .before .before .before .before .before .before .before .before .before .loop .inv .most, c .before .before .before .before .before .before .before .before .before .before .loop .inv .few, c .before .before .before .before .before .before .before .before .before .before .loop .inv .short)
@@ -79,7 +82,8 @@ walk-back-spec =
     enum-known-found-2
     sub-unread
     add-frames
-    add-octets
+    cast-octets
+    sub-octets
     add-coders
     loop-less
     loop-again
