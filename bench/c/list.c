@@ -70,6 +70,10 @@ int main(void)
         c_survey_answer seen = c_survey(payload, length);
         put_line(++lines, &seen);
     }
+    if (ferror(stdin)) {
+        perror("standard input");
+        return 1;
+    }
     printf("%s %lu\n", answer == 0 ? "end" : "cut", lines);
     return fflush(stdout) != 0;
 }
