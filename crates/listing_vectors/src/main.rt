@@ -1,4 +1,4 @@
-// Lists each file that an argument names, by itself, cut into parts of 1, 7 and 4,096 octets, with room for one line at a
+// Lists each file that an argument names, by itself, cut into parts of 1, 7 and 4,096 octets, with room for few lines at a
 // time: each file's listing is written three times, and must be the same.
 ghost use Prim.Native.Nat.{_≤_};
 ghost use lib.ListN.{length};
