@@ -32,7 +32,7 @@ pub data Judged (t : List ℕ) (x : Report) : Type 0 where
   meant : (s : Settings) → Means t s → x ≡ accepting s → Judged t x
   meaningless : ((s : Settings) → Means t s → ⊥) → x ≡ refusing wrongSettings 0 → Judged t x
 
--- the reader's promise, and that a text has one meaning. It leaves one answer only (`one-answer` of proofs/ReadLaws.antt): no text means
+-- the reader's promise, and that a text has one meaning. It leaves one answer only (`SettingsAreExact.fixed` of the crate `theorems`): no text means
 -- settings that are all 0.
 pub record Reads (t : List ℕ) (r : Parsed) : Type 0 where
   pub judged : Judged t (reported r)

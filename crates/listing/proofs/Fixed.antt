@@ -9,7 +9,7 @@ use lib.ListN.{length, take, drop, take-append-drop}
 use lib.Seq.{length-take-le}
 use Rattle.leb128.proofs.Steps.{below-or}
 use Rattle.listing.specs.Listing.{Position, inLength, inPayload, broken, Turn, run}
-use Rattle.listing.specs.Carried.{positionOf, Goes}
+use Rattle.listing.specs.Carried.{positionOf, Goes, Same}
 use Rattle.listing.specs.declared.Phase.{Phase}
 use Rattle.listing.specs.declared.Phase.the-variants as phase
 use Rattle.listing.specs.declared.State.{State}
@@ -77,14 +77,7 @@ module _ {n : ℕ} {w : Position} {input b out : List ℕ} where
 
 -- ---- the theorem
 
--- two answers, and what they leave in the buffers
-pub record Same (r s : Progress) (b′ b″ out′ out″ : List ℕ) : Type 0 where
-  pub answer : r ≡ s
-  pub output : out′ ≡ out″
-  pub payload : positionOf (r .state .phase) b′ ≡ positionOf (s .state .phase) b″
-  pub outside : drop 1400 b′ ≡ drop 1400 b″
-
--- they are the same: a lent buffer keeps its length, and the payload's has 1,400 octets at least
+-- a lent buffer keeps its length, and the payload's has 1,400 octets at least
 pub fixed : (n : ℕ) (w : Position) (input b out : List ℕ) (r s : Progress) (b′ b″ out′ out″ : List ℕ) → 1400 ≤ length b
     → length b′ ≡ length b → length b″ ≡ length b → length out′ ≡ length out → length out″ ≡ length out
     → Goes n w input b out r b′ out′ → Goes n w input b out s b″ out″ → Same r s b′ b″ out′ out″

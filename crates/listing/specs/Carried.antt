@@ -65,7 +65,7 @@ tooShort n = record { number = shortBuffer; place = n; taken = 0; written = 0 }
 
 -- what a call did with a part of the input, from the position w behind n lines on: b′ and out′ are the payload's buffer and
 -- the output buffer afterwards. Of the first 1,400 octets of b′ those that the phase counts are the payload's; the others
--- are left free, and nothing else is (proofs/Fixed.antt).
+-- are left free, and nothing else is (`ListingIsExact.fixed` of the crate `theorems`).
 pub record Goes (n : ℕ) (w : Position) (input b out : List ℕ) (r : Progress) (b′ out′ : List ℕ) : Type 0 where
   pub taken : r .taken ≤ length input
   pub written : r .written ≤ length out
@@ -81,6 +81,13 @@ pub record Goes (n : ℕ) (w : Position) (input b out : List ℕ) (r : Progress)
   -- what lies beyond is unchanged
   pub beyond : drop (r .written) out′ ≡ drop (r .written) out
   pub outside : drop mostOctets b′ ≡ drop mostOctets b
+
+-- two answers of `list` and what they leave in the buffers are the same, but for what is left free
+pub record Same (r s : Progress) (b′ b″ out′ out″ : List ℕ) : Type 0 where
+  pub answer : r ≡ s
+  pub output : out′ ≡ out″
+  pub payload : positionOf (r .state .phase) b′ ≡ positionOf (s .state .phase) b″
+  pub outside : drop mostOctets b′ ≡ drop mostOctets b″
 
 -- what `list` promises: a payload's buffer of fewer than 1,400 octets is refused, and nothing changed
 abbrev pub ListsPart : State → List ℕ → List ℕ → List ℕ → Listed → List ℕ → List ℕ → Type 0

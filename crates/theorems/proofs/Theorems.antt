@@ -8,14 +8,16 @@ use Rattle.payload.proofs.Bench.{bench}
 use Rattle.clock.specs.Time.{ptimeReport}
 use Rattle.clock.proofs.Timed.{five-frames, seven-frames}
 use Rattle.views.proofs.Shown.{all-shown}
+use Rattle.fmtp.proofs.ReadLaws.{one-answer}
 use Rattle.fmtp.proofs.RoundTrip.{round-trip}
 use Rattle.fields.proofs.RoundTrip.{widths-round-trip}
 use Rattle.fields.proofs.Theorems.{unpacked-packed, packed-unpacked}
 use Rattle.leb128.proofs.Exact as numbers
 use Rattle.listing.proofs.Forward.{says, only}
+use Rattle.listing.proofs.Fixed.{fixed}
 use Rattle.listing.proofs.Joined.{joined}
 use Rattle.listing.proofs.Sample.{sample}
-use Rattle.theorems.specs.Theorems.{WalkIsExact, BenchPayloads, RefusedIsNotEmpty, PtimesDecided, ViewsJoin, SettingsReturn, FieldsReturn, NumbersAreExact, ListingIsExact}
+use Rattle.theorems.specs.Theorems.{WalkIsExact, BenchPayloads, RefusedIsNotEmpty, PtimesDecided, ViewsJoin, SettingsAreExact, FieldsReturn, NumbersAreExact, ListingIsExact}
 use Rattle.theorems.proofs.NotEmpty.{not-empty, time-not-empty, noise-refused, noise-time}
 
 pub walk-is-exact : WalkIsExact
@@ -37,8 +39,8 @@ ptimes-decided = record { five = ap ptimeReport five-frames; seven = ap ptimeRep
 pub views-join : ViewsJoin
 views-join = all-shown
 
-pub settings-return : SettingsReturn
-settings-return = round-trip
+pub settings-are-exact : SettingsAreExact
+settings-are-exact = record { fixed = λ t r s d e. one-answer d e; return = round-trip }
 
 pub fields-return : FieldsReturn
 fields-return = record { widths = widths-round-trip; body = unpacked-packed; fields = packed-unpacked }
@@ -52,4 +54,4 @@ numbers-are-exact most bound top = record {
 }
 
 pub listing-is-exact : ListingIsExact
-listing-is-exact = record { says = says; only = only; joined = joined; sample = sample }
+listing-is-exact = record { says = says; only = only; joined = joined; fixed = fixed; sample = sample }

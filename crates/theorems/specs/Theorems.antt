@@ -21,8 +21,9 @@ use Rattle.fields.specs.Answers.{accepted, unpackedAs, packedAs, Unpacks, Packs
 use Rattle.fields.specs.declared.Unpacked.{Unpacked}
 use Rattle.fields.specs.declared.Packed.{Packed}
 use Rattle.leb128.specs.Number.{groupsOf, Within, number, headOf}
-use Rattle.listing.specs.Listing.{Lists, listing}
-use Rattle.listing.specs.Carried.{fresh, Calls}
+use Rattle.listing.specs.Listing.{mostOctets, Position, Lists, listing}
+use Rattle.listing.specs.Carried.{fresh, Goes, Same, Calls}
+use Rattle.listing.specs.declared.Progress.{Progress}
 use Rattle.listing.specs.Sample.{input, output}
 use Rattle.theorems.specs.NotEmpty.{NotEmpty}
 
@@ -53,9 +54,12 @@ pub record PtimesDecided : Type 0 where
 abbrev pub ViewsJoin : Type 0
 ViewsJoin = (p s : List ℕ) (fs : List Frame) → Legal fs → octetsOf fs ≡ p → shownOf p s (length fs) ≡ p
 
--- settings that were written are read as they were
-abbrev pub SettingsReturn : Type 0
-SettingsReturn = (s : Settings) (before after : List ℕ) (n : ℕ) (r : Parsed) → Writes s before (written.Octets n) after → Reads (take n after) r → r ≡ Accepted s
+-- setting texts
+pub record SettingsAreExact : Type 0 where
+  -- what the reader promises of a text leaves one answer
+  pub fixed : (t : List ℕ) (r s : Parsed) → Reads t r → Reads t s → r ≡ s
+  -- settings that were written are read as they were
+  pub return : (s : Settings) (before after : List ℕ) (n : ℕ) (r : Parsed) → Writes s before (written.Octets n) after → Reads (take n after) r → r ≡ Accepted s
 
 -- fields
 pub record FieldsReturn : Type 0 where
@@ -81,5 +85,9 @@ pub record ListingIsExact : Type 0 where
   pub says : (xs : List ℕ) → Octets xs → Lists 0 xs (listing xs)
   pub only : (xs out : List ℕ) → Octets xs → Lists 0 xs out → out ≡ listing xs
   pub joined : (b xs out : List ℕ) → Calls fresh b xs out → out ≡ listing xs
+  -- what `list` promises leaves one answer: a lent buffer keeps its length, and with fewer than 1,400 octets for a payload the call is refused
+  pub fixed : (n : ℕ) (w : Position) (input b out : List ℕ) (r s : Progress) (b′ b″ out′ out″ : List ℕ) → mostOctets ≤ length b
+      → length b′ ≡ length b → length b″ ≡ length b → length out′ ≡ length out → length out″ ≡ length out
+      → Goes n w input b out r b′ out′ → Goes n w input b out s b″ out″ → Same r s b′ b″ out′ out″
   -- document 01's sample
   pub sample : listing input ≡ output
