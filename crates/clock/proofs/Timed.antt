@@ -1,16 +1,17 @@
 -- Laws of the times, one for each case, and the two printed values that the rule decides.
 use mathlib.Core.Path.{_≡_, refl, sym, ap, _∙_}
 use mathlib.Core.Logic.{_⊎_, inl, inr}
-use mathlib.Core.List.{List}
+use mathlib.Core.List.{List, [], _∷_}
 use Prim.Native.Nat.{ℕ, _+_, _*_, _/_, _≤_, _<_}
 use native.Mathlib.Omega.{arith}
 use native.Mathlib.Nat.{mul-le-mul}
 use native.Mathlib.Decide.{ℕ-discrete, decLt}
+use lib.ListN.{length}
 use borrow.Author.Tests.{lt-ltb, le-ltb, eq-eqb, ne-eqb}
 use Rattle.refusal.specs.declared.Refusal.{Refusal}
 use Rattle.wire.specs.Frame.{ticksOfRate, Octets}
-use Rattle.wire.specs.Walk.{readOf}
-use Rattle.payload.specs.Reading.{walkedOf, lasts}
+use Rattle.wire.specs.Walk.{readOf, rateOf}
+use Rattle.payload.specs.Reading.{walkedOf, extent, lasts}
 use Rattle.payload.specs.declared.Extent.{Extent}
 use Rattle.payload.specs.declared.Walked.{Walked}
 use Rattle.payload.specs.declared.Walked.the-variants as walked
@@ -107,3 +108,8 @@ module _ (p : List ℕ) (o : Octets p) {s : Walked} (is : s ≡ walkedOf (readOf
         accepted = λ z. absurd (omega (arith, d .range .some));
         refused = λ z. refl;
       }
+
+pub packet-empty : (p : List ℕ) → Octets p → length p ≡ 0 → PacketTime p (packet.Lasts (record { 0 = 0 }))
+unfolding readOf ticksOfRate rateOf
+packet-empty [] o z = let q : 0 ≡ lasts (extent []) = refl in packet-whole [] o refl (extent []) refl q
+packet-empty (x ∷ p) o z = absurd (omega arith)

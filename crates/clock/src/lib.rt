@@ -26,11 +26,16 @@ pub enum PacketMillis {
 pub fn packet_ticks(payload: &[u8]) -> PacketTicks
     ensures { λ r. ⌜ PacketTime (now (payload .entry)) r ⌝ }
 {
+    // The empty payload is whole and lasts nothing: answered here, it takes no instruction from the others.
+    if payload.len() == 0 {
+        return PacketTicks::Lasts(Ticks(0));
+    }
     let walked = payload::walk(payload);
     match walked {
         Walked::Whole(extent) => {
-            let each = wire::ticks_of_rate(wire::rate_of(extent.before));
-            PacketTicks::Lasts(Ticks((extent.coders * each) as usize))
+            let each = wire::ticks_of(extent.before);
+            let coders = extent.frames as u32 - extent.noise;
+            PacketTicks::Lasts(Ticks((coders * each) as usize))
         }
         Walked::Refused(refusal) => PacketTicks::Refused(refusal),
     }

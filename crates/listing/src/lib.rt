@@ -200,14 +200,15 @@ fn put_line(out: &mut [u8], at: usize, n: u64, payload: &[u8]) -> usize
     let walked = payload::walk(payload);
     match walked {
         Walked::Whole(extent) => {
-            let each = wire::ticks_of_rate(wire::rate_of(extent.before));
+            let each = wire::ticks_of(extent.before);
+            let coders = extent.frames as u32 - extent.noise;
             put_row(
                 out,
                 at,
                 n,
                 true,
                 wide(extent.frames),
-                (extent.coders * each) as u64,
+                (coders * each) as u64,
             )
         }
         Walked::Refused(refusal) => put_row(

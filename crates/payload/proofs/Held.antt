@@ -7,22 +7,23 @@ use native.Mathlib.Omega.{arith}
 use lib.Bits.{bitAnd}
 use lib.Dec.{eqb, ltb}
 use lib.ListN.{length, take, length-append, length-set}
+use lib.Seq.{length-take-le}
 use borrow.Author.Tests.{lt-ltb, le-ltb}
 use Rattle.wire.specs.Frame.{Frame, Kind, bps2400, bps1200, bps600, noise, tsvcis, LegalTc, Octets, number, size, rate, countOf, wireLength, bodiesOf}
 use Rattle.wire.specs.Walk.{Ending, bad, got, lastFrame, own, before, turn, next, frameAt, run, readOf, at, shapeOf, foundOf}
-use Rattle.wire.specs.Step.{allowed, barred, barredAs}
+use Rattle.wire.specs.Step.{stepped, allowed, barred, barredAs}
 use Rattle.wire.specs.declared.Shape.{Shape}
-use Rattle.wire.specs.declared.Found.{Found}
-use Rattle.wire.specs.declared.Found.the-variants.{Bad, Got}
+use Rattle.wire.specs.declared.Stepped.{Stepped}
+use Rattle.wire.specs.declared.Stepped.the-variants as walk
 use Rattle.wire.proofs.Tables.{size-pos, tc-most}
-use Rattle.wire.proofs.Barred.{beside-barred}
+use Rattle.wire.proofs.Barred.{beside-barred, first-noise}
 use Rattle.wire.proofs.Complete.{next-at, stay}
 use Rattle.wire.proofs.Ended.{Whole, Wholes, last-says}
 use Rattle.wire.proofs.Sound.{run-refused, length-base}
 use Rattle.wire.proofs.Prefix.{last-take}
-use Rattle.wire.proofs.Shapes.{Shaped, shaped, bad-is}
-use Rattle.payload.proofs.Lasts.{one-most}
-use Rattle.payload.specs.Reading.{walkedOf, refuse, codersOf}
+use Rattle.wire.proofs.Shapes.{Shaped, stopped, went-over}
+use Rattle.payload.proofs.Lasts.{noise-most}
+use Rattle.payload.specs.Reading.{walkedOf, refuse, noiseOf}
 use Rattle.payload.specs.declared.Walked.the-variants as walked
 
 -- a turn's frame is whole
@@ -74,16 +75,15 @@ sized p u k t w = record {
   low = low-shape k t (w .tc);
 }
 
--- u octets are unread; n frames behind them are read, m of them coder frames, whose bodies and the unread octets are o together, and
--- which allow the bits b
-pub record Held (p : List ℕ) (u n o m b : ℕ) : Type 0 where
+-- u octets are unread; n frames behind them are read, z of them comfort noise; their bodies and the unread octets are o together,
+-- and they allow the bits b
+pub record Held (p : List ℕ) (u n o z b : ℕ) : Type 0 where
   pub later : List Frame
   pub fuel : ℕ
   pub enough : u ≤ fuel
   pub frames : n ≡ length later
   pub octets : o ≡ u + length (bodiesOf later)
-  pub coders : m ≡ codersOf later
-  pub most : m ≤ n
+  pub noise : z ≡ noiseOf later
   pub bits : b ≡ allowed later
   pub few : n + u ≤ length p
   pub short : length p ≤ 1400
@@ -101,28 +101,30 @@ held-start p h e = record {
   enough = omega arith;
   frames = refl;
   octets = omega arith;
-  coders = refl;
-  most = omega arith;
+  noise = refl;
   bits = e;
   few = omega arith;
   short = h;
   same = simp (le-ltb 1400 (length p) h);
 }
 
-pub held-end : (p : List ℕ) (u n o m b : ℕ) → Held p u n o m b → u ≤ 0 → walked.Whole (record { frames = n; octets = o; before = b; coders = m }) ≡ walkedOf (readOf p)
-held-end p u n o m b h z =
+pub held-end : (p : List ℕ) (u n o z b : ℕ) → Held p u n o z b → u ≤ 0 → walked.Whole (record { frames = n; octets = o; before = b; noise = z }) ≡ walkedOf (readOf p)
+held-end p u n o z b h l =
     let e : u ≡ 0 = omega arith in
     let q : o ≡ length (bodiesOf (h .later)) = omega (arith, h .octets) in
-    rw (← (h .same), e, stay (h .fuel) p (h .later), h .frames, q, h .bits, h .coders)
+    rw (← (h .same), e, stay (h .fuel) p (h .later), h .frames, q, h .bits, h .noise)
 
-module _ (p : List ℕ) (u n o m b : ℕ) (h : Held p u n o m b) (pos : 1 ≤ u) where
+module _ (p : List ℕ) (u n o z b : ℕ) (h : Held p u n o z b) (pos : 1 ≤ u) where
   here : Ending
   here = barred b (lastFrame p u)
 
-  -- what the code found is what the walk finds
-  there : {f : Found} → f ≡ foundOf (barred b (lastFrame (take u p) (length (take u p)))) → f ≡ foundOf here
+  -- what the code's step came to is what the walk finds
+  there : {f : Stepped} → f ≡ stepped (length (take u p)) (foundOf (barred b (lastFrame (take u p) (length (take u p))))) → f ≡ stepped u (foundOf here)
   unfolding here
-  there e = e ∙ ap (λ (x : Ending). foundOf (barred b x)) (last-take p u (omega (arith, h .few)))
+  there e =
+      e
+      ∙ ap (λ (x : Ending). stepped (length (take u p)) (foundOf (barred b x))) (last-take p u (omega (arith, h .few)))
+      ∙ ap (λ (i : ℕ). stepped i (foundOf here)) (length-take-le u p (omega (arith, h .few)))
 
   turns : (e : Ending) → here ≡ e → next p (at u (h .later)) ≡ turn p u (h .later) e
   unfolding here
@@ -130,16 +132,22 @@ module _ (p : List ℕ) (u n o m b : ℕ) (h : Held p u n o m b) (pos : 1 ≤ u)
       next-at p u (h .later) pos
       ∙ ap (turn p u (h .later)) (beside-barred (h .later) (lastFrame p u) ∙ ap (λ (x : ℕ). barred x (lastFrame p u)) (sym (h .bits)) ∙ i)
 
-  pub held-bad : (x : ℕ) {f : Found} → f ≡ Bad x → f ≡ foundOf (barred b (lastFrame (take u p) (length (take u p)))) → walked.Refused (refuse x u) ≡ walkedOf (readOf p)
+  pub held-bad : (x : ℕ) {f : Stepped} → f ≡ walk.Bad x → f ≡ stepped (length (take u p)) (foundOf (barred b (lastFrame (take u p) (length (take u p)))))
+      → walked.Refused (refuse x u) ≡ walkedOf (readOf p)
   held-bad x a e = go (h .fuel) (h .enough) (h .same)
     where
       go : (f : ℕ) → u ≤ f → run f p (at u (h .later)) ≡ readOf p → walked.Refused (refuse x u) ≡ walkedOf (readOf p)
       go zero l q = absurd (omega arith)
-      go (suc f) l q = rw (← q, turns (bad x) (bad-is here x a (there e)), run-refused f p x u (h .later))
+      go (suc f) l q = rw (← q, turns (bad x) (stopped u here x a (there e)), run-refused f p x u (h .later))
 
-  module _ (os : Octets p) (x : Shape) {f : Found} (a : f ≡ Got x) (e : f ≡ foundOf (barred b (lastFrame (take u p) (length (take u p))))) where
+  module _ (os : Octets p) (x : Shape) (v : ℕ) {f : Stepped} (a : f ≡ walk.Over x v)
+      (e : f ≡ stepped (length (take u p)) (foundOf (barred b (lastFrame (take u p) (length (take u p)))))) where
     sh : Shaped here x
-    sh = shaped here x a (there e)
+    sh = went-over u here x v a (there e) .0
+
+    -- what is left
+    pub held-left : v ≡ u - x .wire
+    held-left = went-over u here x v a (there e) .1
 
     whole : Whole p u (sh .kind) (sh .tc)
     unfolding here
@@ -148,7 +156,7 @@ module _ (p : List ℕ) (u n o m b : ℕ) (h : Held p u n o m b) (pos : 1 ≤ u)
     pub held-sized : Sized u x
     held-sized = rw (sh .is) (sized p u (sh .kind) (sh .tc) whole)
 
-    next-held : (k : Kind) (t : ℕ) → here ≡ got k t → Whole p u k t → (q : ℕ) → q ≡ m + cond (ltb 0 (rate k)) 1 0
+    next-held : (k : Kind) (t : ℕ) → here ≡ got k t → Whole p u k t → (q : ℕ) → q ≡ cond (ltb 0 (rate k)) 0 1 + noiseOf (h .later)
         → Held p (u - wireLength k t) (n + 1) (o - length (countOf k t)) q (before k)
     next-held k t i w q c = go (h .fuel) (h .enough) (h .same)
       where
@@ -163,19 +171,25 @@ module _ (p : List ℕ) (u n o m b : ℕ) (h : Held p u n o m b) (pos : 1 ≤ u)
           enough = omega (arith, size-pos k);
           frames = omega (arith, h .frames);
           octets = simp length-append (omega (arith, h .octets, body, w .room));
-          coders = omega (arith, c, h .coders);
-          most = omega (arith, c, h .most, one-most k);
+          noise = c;
           bits = refl;
           few = omega (arith, h .few, size-pos k, w .room);
           short = h .short;
           same = ap (run f p) (sym (turns (got k t) i)) ∙ r;
         }
 
-    held-got : (q : ℕ) → q ≡ m + cond (ltb 0 (x .rate)) 1 0 → Held p (u - x .wire) (n + 1) (o - x .count) q (x .before)
-    held-got q c = rw (sh .is) (next-held (sh .kind) (sh .tc) (sh .ends) whole q (c ∙ ap (λ (y : Shape). m + cond (ltb 0 (y .rate)) 1 0) (sh .is)))
+    held-over : (q : ℕ) → q ≡ cond (ltb 0 (x .rate)) 0 1 + noiseOf (h .later) → Held p v (n + 1) (o - x .count) q (x .before)
+    held-over q c =
+        rw (held-left, sh .is)
+        (next-held (sh .kind) (sh .tc) (sh .ends) whole q (c ∙ ap (λ (y : Shape). cond (ltb 0 (y .rate)) 0 1 + noiseOf (h .later)) (sh .is)))
 
-    pub held-coder : 0 < x .rate → Held p (u - x .wire) (n + 1) (o - x .count) (m + 1) (x .before)
-    held-coder l = held-got (m + 1) (simp (lt-ltb 0 (x .rate) l))
+    pub held-coder : (x .rate ≡ 0 → ⊥) → Held p v (n + 1) (o - x .count) z (x .before)
+    held-coder l = held-over z (simp (lt-ltb 0 (x .rate) (omega arith)) (omega (arith, h .noise)))
 
-    pub held-noise : x .rate ≤ 0 → Held p (u - x .wire) (n + 1) (o - x .count) m (x .before)
-    held-noise l = held-got m (simp (le-ltb 0 (x .rate) l) (omega arith))
+    -- comfort noise is the first frame read
+    pub held-noise : x .rate ≡ 0 → Held p v (n + 1) (o - x .count) 1 (x .before)
+    unfolding here
+    held-noise l =
+        let r : rate (sh .kind) ≡ 0 = sym (ap (λ (y : Shape). y .rate) (sh .is)) ∙ l in
+        let f : length (h .later) ≡ 0 = first-noise (h .later) (lastFrame p u) (sh .kind) (sh .tc) (ap (λ (i : ℕ). barred i (lastFrame p u)) (sym (h .bits)) ∙ sh .ends) r in
+        held-over 1 (simp (le-ltb 0 (x .rate) (omega arith)) (omega (arith, noise-most (h .later), f)))

@@ -2,7 +2,7 @@
 use mathlib.Core.Path.{_≡_, refl, sym, ap, _∙_}
 use mathlib.Core.Bool.{cond}
 use mathlib.Core.List.{List, [], _∷_}
-use Prim.Native.Nat.{ℕ, _+_, _*_, _≤_}
+use Prim.Native.Nat.{ℕ, _+_, _-_, _*_, _≤_}
 use native.Mathlib.Nat.{add-mul, one-mul, zero-mul}
 use native.Mathlib.Omega.{arith}
 use lib.Dec.{ltb}
@@ -11,18 +11,31 @@ use Rattle.wire.specs.Frame.{Frame, Kind, bps2400, bps1200, bps600, noise, tsvc
 use Rattle.wire.specs.Walk.{seen, before, rateOf}
 use Rattle.wire.specs.Step.{allowed}
 use Rattle.wire.proofs.Rates.{ticks-of-kind, rate-before}
-use Rattle.payload.specs.Reading.{codersOf, extent, lasts}
+use Rattle.payload.specs.Reading.{noiseOf, extent, lasts}
 
 -- 1 for a coder frame
 abbrev one : Kind → ℕ
 one k = cond (ltb 0 (rate k)) 1 0
 
-pub one-most : (k : Kind) → cond (ltb 0 (rate k)) 1 0 ≤ 1
-one-most bps2400 = omega arith
-one-most bps1200 = omega arith
-one-most bps600 = omega arith
-one-most noise = omega arith
-one-most tsvcis = omega arith
+-- the coder frames of a sequence
+abbrev codersOf : List Frame → ℕ
+codersOf [] = 0
+codersOf (f ∷ fs) = one (f .kind) + codersOf fs
+
+-- each frame is a coder frame or comfort noise
+either : (k : Kind) → cond (ltb 0 (rate k)) 0 1 + one k ≡ 1
+either bps2400 = refl
+either bps1200 = refl
+either bps600 = refl
+either noise = refl
+either tsvcis = refl
+
+noise-coders : (fs : List Frame) → noiseOf fs + codersOf fs ≡ length fs
+noise-coders [] = refl
+noise-coders (f ∷ fs) = omega (arith, either (f .kind), noise-coders fs)
+
+pub noise-most : (fs : List Frame) → noiseOf fs ≤ length fs
+noise-most fs = omega (arith, noise-coders fs)
 
 -- the bits before the frames tell their rate
 pub rate-seen : (fs : List Frame) → rateOf (allowed fs) ≡ seen fs
@@ -60,10 +73,10 @@ module _ (r : ℕ) where
 
 -- a legal sequence lasts the sum over its frames
 pub lasts-sum : (fs : List Frame) → Legal fs → lasts (extent fs) ≡ ticksOf fs
-lasts-sum [] l = zero-mul (ticksOfRate (rateOf (allowed [])))
-lasts-sum (f ∷ fs) l = first (l .0) (f .kind) fs (l .1 .1) (l .1 .2) ∙ all (l .0) (f ∷ fs) (l .1)
-
--- and no more coder frames than frames
-pub coders-most : (fs : List Frame) → codersOf fs ≤ length fs
-coders-most [] = omega arith
-coders-most (f ∷ fs) = omega (arith, one-most (f .kind), coders-most fs)
+lasts-sum fs l =
+    let c : length fs - noiseOf fs ≡ codersOf fs = omega (arith, noise-coders fs) in
+    ap (λ (n : ℕ). n * ticksOfRate (rateOf (allowed fs))) c ∙ go fs l
+  where
+    go : (gs : List Frame) → Legal gs → codersOf gs * ticksOfRate (rateOf (allowed gs)) ≡ ticksOf gs
+    go [] l = zero-mul (ticksOfRate (rateOf (allowed [])))
+    go (f ∷ gs) l = first (l .0) (f .kind) gs (l .1 .1) (l .1 .2) ∙ all (l .0) (f ∷ gs) (l .1)

@@ -9,7 +9,7 @@ use Rattle.wire.specs.Walk.{Walk, at, refused, readOf}
 use Rattle.wire.proofs.Complete.{complete}
 use Rattle.wire.proofs.Sound.{sound, Ended, read-ends}
 use Rattle.wire.proofs.Ranges.{InRange, in-range, frames-most}
-use Rattle.payload.proofs.Lasts.{rate-seen, lasts-sum, coders-most}
+use Rattle.payload.proofs.Lasts.{rate-seen, lasts-sum, noise-most}
 use Rattle.payload.specs.Reading.{refuse, extent, lasts, walkedOf, walkReport, walkNumbers, Walks}
 use Rattle.payload.specs.declared.Extent.{Extent}
 use Rattle.payload.specs.declared.Walked.{Walked}
@@ -66,10 +66,10 @@ module _ (p : List ℕ) (o : Octets p) {s : Walked} (is : s ≡ walkedOf (readOf
   pub went-lasts : (x : Extent) (e : s ≡ walked.Whole x) → lasts x ≡ ticksOf (went x e .0 .fs)
   went-lasts x e = let w = went x e in ap lasts (w .1) ∙ lasts-sum (w .0 .fs) (w .0 .legal)
 
-  pub went-few : (x : Extent) → s ≡ walked.Whole x → x .coders ≤ 200
+  pub went-few : (x : Extent) → s ≡ walked.Whole x → (x .noise ≤ x .frames) × (x .frames ≤ 200)
   went-few x e =
       let w = went x e in
-      omega (arith, ap (λ (y : Extent). y .coders) (w .1), coders-most (w .0 .fs), frames-most (w .0 .fs) (w .0 .legal))
+      rw (w .1) (noise-most (w .0 .fs), frames-most (w .0 .fs) (w .0 .legal))
 
   pub stopped : (x : Refusal) → s ≡ walked.Refused x → Denied p x
   stopped x e = go (view p o) (sym is ∙ e)

@@ -2,7 +2,7 @@
 use mathlib.Core.Path.{_≡_}
 use mathlib.Core.Bool.{cond}
 use mathlib.Core.List.{List, [], _∷_, _++_}
-use Prim.Native.Nat.{ℕ, _+_, _*_, _/_}
+use Prim.Native.Nat.{ℕ, _+_, _-_, _*_, _/_}
 use lib.Dec.{ltb}
 use lib.ListN.{length, drop}
 use Rattle.refusal.specs.Numbers.{shortList, shortBuffer}
@@ -20,18 +20,18 @@ use Rattle.payload.specs.declared.Reading.the-variants as reading
 abbrev pub refuse : ℕ → ℕ → Refusal
 refuse n place = record { number = n; place = place }
 
--- the coder frames of a sequence: all that have a rate
-abbrev pub codersOf : List Frame → ℕ
-codersOf [] = 0
-codersOf (f ∷ fs) = cond (ltb 0 (rate (f .kind))) 1 0 + codersOf fs
+-- comfort noise in a sequence: the frames that have no rate
+abbrev pub noiseOf : List Frame → ℕ
+noiseOf [] = 0
+noiseOf (f ∷ fs) = cond (ltb 0 (rate (f .kind))) 0 1 + noiseOf fs
 
--- what the walk comes to: frames, body octets, the bits of what may stand before the frames, and the coder frames among them
+-- what the walk comes to: frames, body octets, the bits of what may stand before the frames, and comfort noise among them
 abbrev pub extent : List Frame → Extent
-extent fs = record { frames = length fs; octets = length (bodiesOf fs); before = allowed fs; coders = codersOf fs }
+extent fs = record { frames = length fs; octets = length (bodiesOf fs); before = allowed fs; noise = noiseOf fs }
 
 -- what a packet of this extent lasts, in ticks: its coder frames, of one rate, each as long as that rate's
 abbrev pub lasts : Extent → ℕ
-lasts x = x .coders * ticksOfRate (rateOf (x .before))
+lasts x = (x .frames - x .noise) * ticksOfRate (rateOf (x .before))
 
 -- what a walk comes to, in numbers
 abbrev pub walkedOf : Walk → Walked

@@ -10,6 +10,7 @@ ghost use Rattle.payload.specs.Promise.{Reads};
 use refusal::Refusal;
 use wire::Found;
 use wire::Shape;
+use wire::Stepped;
 // The writer, which is a crate of its own so that it is proved by itself.
 pub use writer::RowCheck;
 pub use writer::Totals;
@@ -20,12 +21,12 @@ pub use writer::write;
 const MOST_OCTETS: usize = 1400;
 
 // What the walk over a payload comes to: frames, octets of their bodies, the bits of what may stand before them, from which
-// `wire::rate_of` has their rate, and the coder frames among them.
+// `wire::rate_of` has their rate, and comfort noise among them.
 pub struct Extent {
     pub frames: usize,
     pub octets: usize,
     pub before: u32,
-    pub coders: u32,
+    pub noise: u32,
 }
 
 // An empty payload is whole and holds no frames; a refused one is the other case.
@@ -49,23 +50,24 @@ fn walk_back(payload: &[u8]) -> Walked
     let mut frames: usize = 0;
     // Those unread, and of those read all that are no count: so a kind without augmentation changes nothing here.
     let mut octets = payload.len();
-    let mut coders: u32 = 0;
+    // The one frame that is no coder frame, which is the first read: so a coder frame changes nothing here either.
+    let mut noise: u32 = 0;
     let mut allowed = wire::anything();
     while 0 < unread {
-        let found = wire::step(&payload[..unread], allowed);
-        match found {
-            Found::Bad(number) => {
+        let stepped = wire::step(&payload[..unread], allowed);
+        match stepped {
+            Stepped::Bad(number) => {
                 return Walked::Refused(Refusal {
                     number,
                     place: unread,
                 });
             }
-            Found::Got(shape) => {
-                unread -= shape.wire;
+            Stepped::Over(shape, left) => {
+                unread = left;
                 frames += 1;
                 octets -= shape.count as usize;
-                if 0 < shape.rate {
-                    coders += 1;
+                if shape.rate == 0 {
+                    noise = 1;
                 }
                 allowed = shape.before;
             }
@@ -75,7 +77,7 @@ fn walk_back(payload: &[u8]) -> Walked
         frames,
         octets,
         before: allowed,
-        coders,
+        noise,
     })
 }
 

@@ -8,7 +8,7 @@
 //
 // A line that starts with # is only written; any other, and a case that asks for more than there is here, is malformed.
 // `read` lends that many numbers, each 99 before the call, and octets, each ee, and writes the answer and all that was lent,
-// so that whatever a call leaves unchanged shows; then frames, body octets, rate and coder frames by `walk`, and ticks by
+// so that whatever a call leaves unchanged shows; then frames, body octets, rate and comfort noise by `walk`, and ticks by
 // `packet_ticks`. `view` writes the row's augmentation and its frame, with a stand-in of that many octets, each 5a. `time`
 // writes the ptime in milliseconds. `write` lends that many octets, each ee, and writes the answer, what was lent and the
 // ten octets behind it.
@@ -354,7 +354,7 @@ fn say_walk(payload: &[u8]) {
             say_number(extent.frames);
             say_number(extent.octets);
             say_number(wire::rate_of(extent.before) as usize);
-            say_number(extent.coders as usize);
+            say_number(extent.noise as usize);
         }
     }
 }

@@ -1,5 +1,6 @@
 -- 6 and 8 in bits are the walk's own: what a frame is, and what the frames read allow.
 use mathlib.Core.Path.{_≡_, refl, sym, ap, _∙_}
+use mathlib.Core.Logic.{_⊎_, inl, inr}
 use mathlib.Core.Bool.{Bool, true, false, cond}
 use mathlib.Core.List.{List, [], _∷_}
 use Prim.Native.Nat.{ℕ, suc, _+_, _-_, _≤_, _<_}
@@ -10,31 +11,34 @@ use lib.ListN.{length, getD}
 use borrow.Author.Tests.{ne-eqb, eq-eqb, lt-ltb}
 use Rattle.wire.specs.Frame.{Frame, Kind, bps2400, bps1200, bps600, noise, tsvcis, countOf, rate, size, wireLength}
 use Rattle.wire.specs.Walk.{Ending, bad, got, ending, foreign, whole, lastFrame, clash, beside, seen, own, before, shapeOf, foundOf}
-use Rattle.wire.specs.Step.{allowed, barred, barredAs, barShape, fitShape, fitted, rated}
+use Rattle.wire.specs.Step.{allowed, barred, barredAs, barShape, fitShape, fitted, rated, stepped}
 use Rattle.wire.specs.declared.Shape.{Shape}
 use Rattle.wire.specs.declared.Found.{Found}
 use Rattle.wire.specs.declared.Found.the-variants.{Bad, Got}
+use Rattle.wire.specs.declared.Stepped.{Stepped}
+use Rattle.wire.specs.declared.Stepped.the-variants as walk
+use Rattle.wire.proofs.Tables.{below-or}
 use Rattle.wire.proofs.Shapes.{fit-cut, fit-got, Told, told-ending}
 
 -- ---- the code's tests, case by case
 
 module _ (u b : ℕ) (x : Shape) where
-  pub admit-cut : u < x .wire → Bad 2 ≡ rated b (fitShape u x)
-  admit-cut h = ap (rated b) (fit-cut u x h)
+  pub admit-cut : u < x .wire → walk.Bad 2 ≡ stepped u (rated b (fitShape u x))
+  admit-cut h = ap (λ (f : Found). stepped u (rated b f)) (fit-cut u x h)
 
   module _ (h : x .wire ≤ u) where
-    pub admit-got : (bitAnd b (x .own) ≡ 0 → ⊥) → Got x ≡ rated b (fitShape u x)
+    pub admit-got : (bitAnd b (x .own) ≡ 0 → ⊥) → walk.Over x (u - x .wire) ≡ stepped u (rated b (fitShape u x))
     unfolding barShape
-    admit-got z = simp (ne-eqb (bitAnd b (x .own)) 0 z) refl ∙ ap (rated b) (fit-got u x h)
+    admit-got z = simp (ne-eqb (bitAnd b (x .own)) 0 z) refl ∙ ap (λ (f : Found). stepped u (rated b f)) (fit-got u x h)
 
     module _ (z : bitAnd b (x .own) ≡ 0) where
-      pub admit-late : x .wire ≡ 2 → Bad 6 ≡ rated b (fitShape u x)
+      pub admit-late : x .wire ≡ 2 → walk.Bad 6 ≡ stepped u (rated b (fitShape u x))
       unfolding barShape
-      admit-late e = simp (eq-eqb (bitAnd b (x .own)) 0 z, eq-eqb (x .wire) 2 e) refl ∙ ap (rated b) (fit-got u x h)
+      admit-late e = simp (eq-eqb (bitAnd b (x .own)) 0 z, eq-eqb (x .wire) 2 e) refl ∙ ap (λ (f : Found). stepped u (rated b f)) (fit-got u x h)
 
-      pub admit-mixed : (x .wire ≡ 2 → ⊥) → Bad 8 ≡ rated b (fitShape u x)
+      pub admit-mixed : (x .wire ≡ 2 → ⊥) → walk.Bad 8 ≡ stepped u (rated b (fitShape u x))
       unfolding barShape
-      admit-mixed e = simp (eq-eqb (bitAnd b (x .own)) 0 z, ne-eqb (x .wire) 2 e) refl ∙ ap (rated b) (fit-got u x h)
+      admit-mixed e = simp (eq-eqb (bitAnd b (x .own)) 0 z, ne-eqb (x .wire) 2 e) refl ∙ ap (λ (f : Found). stepped u (rated b f)) (fit-got u x h)
 
 -- ---- the step
 
@@ -78,11 +82,11 @@ module _ (p : List ℕ) (u b : ℕ) (r : Found) (k : fitted u r ≡ foundOf (las
   rated-last : rated b (fitted u r) ≡ foundOf (barred b (lastFrame p u))
   rated-last = ap (rated b) k ∙ rated-is b (lastFrame p u) (told-last p u)
 
-  pub step-bad : (n : ℕ) → r ≡ Bad n → Bad n ≡ foundOf (barred b (lastFrame p u))
-  step-bad n e = sym (ap (λ (f : Found). rated b (fitted u f)) e) ∙ rated-last
+  pub step-bad : (n : ℕ) → r ≡ Bad n → walk.Bad n ≡ stepped u (foundOf (barred b (lastFrame p u)))
+  step-bad n e = ap (stepped u) (sym (ap (λ (f : Found). rated b (fitted u f)) e) ∙ rated-last)
 
-  pub step-got : (x : Shape) → r ≡ Got x → {s : Found} → s ≡ rated b (fitShape u x) → s ≡ foundOf (barred b (lastFrame p u))
-  step-got x e es = es ∙ sym (ap (λ (f : Found). rated b (fitted u f)) e) ∙ rated-last
+  pub step-got : (x : Shape) → r ≡ Got x → {s : Stepped} → s ≡ stepped u (rated b (fitShape u x)) → s ≡ stepped u (foundOf (barred b (lastFrame p u)))
+  step-got x e es = es ∙ ap (stepped u) (sym (ap (λ (f : Found). rated b (fitted u f)) e) ∙ rated-last)
 
 -- ---- the walk's own words
 
@@ -134,3 +138,38 @@ unfolding beside barred
 beside-barred later (bad n) = refl
 beside-barred [] (got k t) = beside-none k t
 beside-barred (f ∷ fs) (got k t) = beside-some (length fs) t k (f .kind)
+
+-- ---- comfort noise is read first
+
+first-beside : (n s : ℕ) (e : Ending) (k : Kind) (t : ℕ) → beside n s e ≡ got k t → rate k ≡ 0 → n ≡ 0
+unfolding beside
+first-beside n s (bad m) k t q r = absurd (let z : _≡_ {A = ℕ} 0 1 = cc in omega arith)
+first-beside n s (got noise u) k t q r = go (below-or 0 n)
+  where
+    go : (0 < n) ⊎ (n ≤ 0) → n ≡ 0
+    go (inl l) = let b : bad 6 ≡ got k t = simp (lt-ltb 0 n l) at q in absurd (let z : _≡_ {A = ℕ} 0 1 = cc in omega arith)
+    go (inr l) = omega arith
+first-beside n s (got bps2400 u) k t q r = go (clash 2400 s) q
+  where
+    go : (b : Bool) → cond b (bad 8) (got bps2400 u) ≡ got k t → n ≡ 0
+    go true i = absurd (let z : _≡_ {A = ℕ} 0 1 = cc in omega arith)
+    go false i = let j : bps2400 ≡ k = cc in absurd (omega (arith, ap rate j))
+first-beside n s (got bps1200 u) k t q r = go (clash 1200 s) q
+  where
+    go : (b : Bool) → cond b (bad 8) (got bps1200 u) ≡ got k t → n ≡ 0
+    go true i = absurd (let z : _≡_ {A = ℕ} 0 1 = cc in omega arith)
+    go false i = let j : bps1200 ≡ k = cc in absurd (omega (arith, ap rate j))
+first-beside n s (got bps600 u) k t q r = go (clash 600 s) q
+  where
+    go : (b : Bool) → cond b (bad 8) (got bps600 u) ≡ got k t → n ≡ 0
+    go true i = absurd (let z : _≡_ {A = ℕ} 0 1 = cc in omega arith)
+    go false i = let j : bps600 ≡ k = cc in absurd (omega (arith, ap rate j))
+first-beside n s (got tsvcis u) k t q r = go (clash 2400 s) q
+  where
+    go : (b : Bool) → cond b (bad 8) (got tsvcis u) ≡ got k t → n ≡ 0
+    go true i = absurd (let z : _≡_ {A = ℕ} 0 1 = cc in omega arith)
+    go false i = let j : tsvcis ≡ k = cc in absurd (omega (arith, ap rate j))
+
+-- a frame without a rate stands behind all others
+pub first-noise : (later : List Frame) (e : Ending) (k : Kind) (t : ℕ) → barred (allowed later) e ≡ got k t → rate k ≡ 0 → length later ≡ 0
+first-noise later e k t q r = first-beside (length later) (seen later) e k t (beside-barred later e ∙ q) r

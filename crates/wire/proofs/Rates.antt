@@ -1,6 +1,6 @@
 -- Laws of the ticks of a rate, and of the rate that bits tell.
 use mathlib.Core.Path.{_≡_, refl}
-use Prim.Native.Nat.{ℕ, _*_, _≤_}
+use Prim.Native.Nat.{ℕ, zero, suc, _*_, _≤_, _<_}
 use native.Mathlib.Omega.{arith}
 use native.Mathlib.Decide.{ℕ-discrete}
 use native.Mathlib.Nat.{mul-le-mul}
@@ -71,3 +71,10 @@ rate-before bps1200 = refl
 rate-before bps600 = refl
 rate-before noise = refl
 rate-before tsvcis = refl
+
+-- bits below 2 are those of 2400 bps, or none
+pub ticks-low : (b : ℕ) → b < 2 → 180 * b ≡ ticksOfRate (rateOf b)
+unfolding ticksOfRate rateOf
+ticks-low zero l = refl
+ticks-low (suc zero) l = refl
+ticks-low (suc (suc b)) l = absurd (omega arith)

@@ -3,19 +3,21 @@ use mathlib.Core.Path.{_≡_, refl, ap, _∙_}
 use mathlib.Core.Logic.{_⊎_, inl, inr}
 use mathlib.Core.Bool.{Bool, true, false, cond}
 use mathlib.Core.List.{List}
-use Prim.Native.Nat.{ℕ, _+_, _-_, _≤_, _<_}
+use Prim.Native.Nat.{ℕ, _+_, _-_, _/_, _≤_, _<_}
 use native.Mathlib.Omega.{arith}
 use lib.Dec.{ltb, eqb}
 use lib.ListN.{getD, length}
 use borrow.Author.Tests.{lt-ltb, le-ltb, eqb-false}
 use Rattle.wire.specs.Frame.{Kind, bps2400, bps1200, bps600, noise, tsvcis, isShort, size, countOf, wireLength}
 use Rattle.wire.specs.Walk.{Ending, bad, got, named, counted, ending, foreign, whole, lastFrame, shapeOf, foundOf}
-use Rattle.wire.specs.Step.{basedShape, fitShape, fitted, CountEnd}
+use Rattle.wire.specs.Step.{plainShape, basedShape, fitShape, fitted, stepped, EndsFrom}
 use Rattle.wire.specs.declared.Shape.{Shape}
 use Rattle.wire.specs.declared.Found.{Found}
 use Rattle.wire.specs.declared.Found.the-variants.{Bad, Got}
+use Rattle.wire.specs.declared.Stepped.{Stepped}
+use Rattle.wire.specs.declared.Stepped.the-variants as walk
 use Rattle.wire.proofs.Tables.{below-or, Counts, short, long, counts}
-use Rattle.wire.proofs.Steps.{named-1200, named-foreign, named-noise, named-short, counted-zero, counted-short, counted-long, ending-one, ending-alone, ending-two}
+use Rattle.wire.proofs.Steps.{named-2400, named-600, named-1200, named-foreign, named-noise, named-short, counted-zero, counted-short, counted-long, ending-one, ending-alone, ending-two}
 
 -- ---- augmentation
 
@@ -48,6 +50,17 @@ pub noise-cut : (u : ℕ) → u < 2 → Bad 2 ≡ fitted u (Got (shapeOf noise 0
 unfolding countOf
 noise-cut u h = fit-cut u (shapeOf noise 0) h
 
+-- ---- 2400 and 600 bps
+
+-- their own bit is one more than the bit of the last octet in which they differ
+pub low-2400 : (x : ℕ) → x < 64 → Got (plainShape 1 7 0 2400 (1 + x / 64) (1 + x / 64)) ≡ foundOf (named x)
+unfolding countOf
+low-2400 x h = let z : x / 64 ≡ 0 = omega arith in rw (z, named-2400 x h)
+
+pub low-600 : (x : ℕ) → 64 ≤ x → x < 128 → Got (plainShape 3 7 64 600 (1 + x / 64) (1 + x / 64)) ≡ foundOf (named x)
+unfolding countOf
+low-600 x l h = let z : x / 64 ≡ 1 = omega arith in rw (z, named-600 x l h)
+
 -- ---- what the code found, as the walk has it
 
 -- a found shape is that of a kind and TC
@@ -64,6 +77,17 @@ shaped (got k t) x a b = record { kind = k; tc = t; ends = refl; is = cc }
 pub bad-is : (e : Ending) (n : ℕ) {f : Found} → f ≡ Bad n → f ≡ foundOf e → e ≡ bad n
 bad-is (bad m) n a b = let q : m ≡ n = cc in ap bad q
 bad-is (got k t) n a b = absurd (let z : _≡_ {A = ℕ} 0 1 = cc in omega arith)
+
+-- what a step came to, in the same words
+pub stopped : (u : ℕ) (e : Ending) (n : ℕ) {f : Stepped} → f ≡ walk.Bad n → f ≡ stepped u (foundOf e) → e ≡ bad n
+stopped u (bad m) n a b = let q : m ≡ n = cc in ap bad q
+stopped u (got k t) n a b = absurd (let z : _≡_ {A = ℕ} 0 1 = cc in omega arith)
+
+pub went-over : (u : ℕ) (e : Ending) (x : Shape) (l : ℕ) {f : Stepped} → f ≡ walk.Over x l → f ≡ stepped u (foundOf e) → Shaped e x × (l ≡ u - x .wire)
+went-over u (bad n) x l a b = absurd (let z : _≡_ {A = ℕ} 0 1 = cc in omega arith)
+went-over u (got k t) x l a b =
+    let q : shapeOf k t ≡ x = cc in
+    (record { kind = k; tc = t; ends = refl; is = cc }, let r : l ≡ u - wireLength k t = cc in r ∙ ap (λ (y : Shape). u - y .wire) q)
 
 -- ---- the frame, kind by kind
 
@@ -92,21 +116,23 @@ module _ (p : List ℕ) (u : ℕ) where
   unfolding lastFrame whole
   fitted-bad n e = rw e
 
-  pub fitted-plain : (k : Kind) → ((x : ℕ) → foreign k x ≡ false) → ending p u ≡ got k 0 → {x : Shape} → x ≡ shapeOf k 0 → fitted u (Got x) ≡ foundOf (lastFrame p u)
+  fitted-plain : (k : Kind) → ((x : ℕ) → foreign k x ≡ false) → ending p u ≡ got k 0 → {x : Shape} → x ≡ shapeOf k 0 → fitted u (Got x) ≡ foundOf (lastFrame p u)
   unfolding lastFrame
   fitted-plain k f e ex = ap (fitShape u) ex ∙ rw e (plain-whole k f)
 
-  -- a last octet from 128 to 191
-  pub fitted-other : (x : ℕ) → 128 ≤ x → x < 192 → ending p u ≡ named x → (r : Found) → fitted u r ≡ fitted u (foundOf (named x)) → fitted u r ≡ foundOf (lastFrame p u)
-  fitted-other x l h e r er = go (below-or x 130) (below-or x 160)
+  -- a last octet below 192
+  pub fitted-one : (x : ℕ) → x < 192 → ending p u ≡ named x → (r : Found) → fitted u r ≡ fitted u (foundOf (named x)) → fitted u r ≡ foundOf (lastFrame p u)
+  fitted-one x h e r er = go (below-or x 64) (below-or x 128) (below-or x 130) (below-or x 160)
     where
       plain : (k : Kind) → ((y : ℕ) → foreign k y ≡ false) → named x ≡ got k 0 → fitted u r ≡ foundOf (lastFrame p u)
       plain k f n = er ∙ ap (λ (q : Ending). fitted u (foundOf q)) n ∙ fitted-plain k f (e ∙ n) refl
 
-      go : (x < 130) ⊎ (130 ≤ x) → (x < 160) ⊎ (160 ≤ x) → fitted u r ≡ foundOf (lastFrame p u)
-      go (inl c) d = plain bps1200 (λ y. refl) (named-1200 x l c)
-      go (inr c) (inl d) = let n = named-foreign x c d in er ∙ ap (λ (q : Ending). fitted u (foundOf q)) n ∙ fitted-bad 3 (e ∙ n)
-      go (inr c) (inr d) = plain noise (λ y. refl) (named-noise x d h)
+      go : (x < 64) ⊎ (64 ≤ x) → (x < 128) ⊎ (128 ≤ x) → (x < 130) ⊎ (130 ≤ x) → (x < 160) ⊎ (160 ≤ x) → fitted u r ≡ foundOf (lastFrame p u)
+      go (inl a) b c d = plain bps2400 (λ y. refl) (named-2400 x a)
+      go (inr a) (inl b) c d = plain bps600 (λ y. refl) (named-600 x a b)
+      go (inr a) (inr b) (inl c) d = plain bps1200 (λ y. refl) (named-1200 x b c)
+      go (inr a) (inr b) (inr c) (inl d) = let n = named-foreign x c d in er ∙ ap (λ (q : Ending). fitted u (foundOf q)) n ∙ fitted-bad 3 (e ∙ n)
+      go (inr a) (inr b) (inr c) (inr d) = plain noise (λ y. refl) (named-noise x d h)
 
   -- what was found in the walk's own words
   pub fitted-whole : {r : Found} → r ≡ foundOf (lastFrame p u) → fitted u r ≡ foundOf (lastFrame p u)
@@ -168,7 +194,7 @@ tsvcis-got e t a k s b = cc
 bad-got : (e : Ending) (n : ℕ) → e ≡ bad n → (k : Kind) (s : ℕ) → e ≡ got k s → k ≡ tsvcis
 bad-got e n a k s b = absurd (let z : _≡_ {A = ℕ} 0 1 = cc in omega arith)
 
-pub count-kind : (p : List ℕ) (x : ℕ) → CountEnd p x → (k : Kind) (t : ℕ) → ending p (length p) ≡ got k t → k ≡ tsvcis
+pub count-kind : (p : List ℕ) (x : ℕ) → EndsFrom 192 p x → (k : Kind) (t : ℕ) → ending p (length p) ≡ got k t → k ≡ tsvcis
 count-kind p x h = go (below-or x 255) (below-or 1 (length p))
   where
     tc : ℕ
@@ -184,7 +210,7 @@ count-kind p x h = go (below-or x 255) (below-or 1 (length p))
     go (inr a) (inl w) = long-kind (ending-two p (length p) tc w (omega (arith, h .last)) refl) (below-or 0 tc) (counts tc)
     go (inr a) (inr w) = bad-got (ending p (length p)) 2 (ending-alone p (length p) (omega (arith, h .some)) (omega (arith, h .last)))
 
-module _ (p : List ℕ) (x : ℕ) (h : CountEnd p x) (y : Shape) (w : Shaped (ending p (length p)) y) where
+module _ (p : List ℕ) (x : ℕ) (h : EndsFrom 192 p x) (y : Shape) (w : Shaped (ending p (length p)) y) where
   is-tsvcis : y ≡ shapeOf tsvcis (w .tc)
   is-tsvcis = w .is ∙ ap (λ (k : Kind). shapeOf k (w .tc)) (count-kind p x h (w .kind) (w .tc) (w .ends))
 

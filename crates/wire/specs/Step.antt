@@ -12,6 +12,8 @@ use Rattle.wire.specs.Walk.{Ending, bad, got, own, before}
 use Rattle.wire.specs.declared.Shape.{Shape}
 use Rattle.wire.specs.declared.Found.{Found}
 use Rattle.wire.specs.declared.Found.the-variants.{Bad, Got}
+use Rattle.wire.specs.declared.Stepped.{Stepped}
+use Rattle.wire.specs.declared.Stepped.the-variants as walk
 
 -- the numbers of a frame whose base is all of it
 abbrev pub plainShape : ℕ → ℕ → ℕ → ℕ → ℕ → ℕ → Shape
@@ -40,6 +42,11 @@ abbrev pub rated : ℕ → Found → Found
 rated b (Bad n) = Bad n
 rated b (Got x) = barShape b x
 
+-- what was found at the end of u unread octets, as the walk's step answers it: with the octets before it
+abbrev pub stepped : ℕ → Found → Stepped
+stepped u (Bad n) = walk.Bad n
+stepped u (Got x) = walk.Over x (u - x .wire)
+
 -- the bits that the frames read allow: what may stand before the last one read; all four where nothing is read
 abbrev pub allowed : List Frame → ℕ
 allowed [] = 15
@@ -59,11 +66,11 @@ unfoldable pub barred : ℕ → Ending → Ending
 barred b (bad n) = bad n
 barred b (got k t) = cond (eqb (bitAnd b (own k)) 0) (bad (barredAs k)) (got k t)
 
--- the octets end in x, an octet of a count
-pub record CountEnd (p : List ℕ) (x : ℕ) : Type 0 where
+-- the octets end in x, which is at least l; from 192 on it is an octet of a count
+pub record EndsFrom (l : ℕ) (p : List ℕ) (x : ℕ) : Type 0 where
   pub some : 1 ≤ length p
   pub last : getD p (length p - 1) 0 ≡ x
-  pub high : 192 ≤ x
+  pub high : l ≤ x
 
 -- a TSVCIS frame of TC t has n octets of count
 pub record CountIs (t n : ℕ) : Type 0 where

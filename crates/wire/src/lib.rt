@@ -5,7 +5,8 @@ ghost use mathlib.Core.List.{[]};
 ghost use lib.ListN.{length};
 ghost use Rattle.wire.specs.Frame.{bps2400, bps1200, bps600, noise, tsvcis, ticksOfRate};
 ghost use Rattle.wire.specs.Walk.{named, counted, ending, lastFrame, foundOf, shapeOf, rateOf};
-ghost use Rattle.wire.specs.Step.{plainShape, basedShape, fitShape, fitted, rated, allowed, barred, CountEnd, CountIs};
+ghost use Rattle.wire.specs.Step.{plainShape, basedShape, fitShape, fitted, rated, stepped, allowed, barred, EndsFrom, CountIs};
+ghost use Rattle.wire.specs.declared.Found.the-variants.{Got};
 
 // The kind of a 2400 bps frame without augmentation, the commonest.
 pub const PLAIN_2400: u16 = 1;
@@ -37,6 +38,12 @@ pub struct Shape {
 pub enum Found {
     Bad(u8),
     Got(Shape),
+}
+
+// What a step of the walk comes to: a refusal's number, or a frame and the number of octets before it.
+pub enum Stepped {
+    Bad(u8),
+    Over(Shape, usize),
 }
 
 fn wide(x: u8) -> usize
@@ -79,6 +86,17 @@ pub fn rate_of(before: u32) -> u32
         return 1200;
     }
     0
+}
+
+// The ticks of a coder frame before which these bits may stand; 0 where the bits are not those of one rate. 2400 bps is asked for
+// by its range: by equality the compiler would make one choice of all three rates, which takes a jump more.
+pub fn ticks_of(before: u32) -> u32
+    ensures { λ r. ⌜ r ≡ ticksOfRate (rateOf before) ⌝ }
+{
+    if before < 2 {
+        return 180 * before;
+    }
+    ticks_of_rate(rate_of(before))
 }
 
 // ---- the shapes
@@ -177,7 +195,7 @@ fn long_count(tc: usize) -> Found
 
 // The TSVCIS frame that a last octet x from 192 on names, which is its count or the second octet of it.
 fn last_count(unread: &[u8], x: u8) -> Found
-    requires { ⌜ CountEnd (now unread) x ⌝ }
+    requires { ⌜ EndsFrom 192 (now unread) x ⌝ }
     ensures { λ r. ⌜ r ≡ foundOf (ending (now (unread .entry)) (length (now (unread .entry)))) ⌝ }
 {
     if x < 255 {
@@ -231,7 +249,7 @@ fn augmented_frame(unread: &[u8], shape: Shape) -> Found
 
 // The TSVCIS frame that a last octet x from 192 on names.
 fn tsvcis_frame(unread: &[u8], x: u8) -> Found
-    requires { ⌜ CountEnd (now unread) x ⌝ }
+    requires { ⌜ EndsFrom 192 (now unread) x ⌝ }
     ensures { λ r. ⌜ r ≡ foundOf (lastFrame (now (unread .entry)) (length (now (unread .entry)))) ⌝ }
 {
     let found = last_count(unread, x);
@@ -255,42 +273,47 @@ fn other_frame(n: usize, x: u8) -> Found
     last_octet(x)
 }
 
-// The frame that the unread octets end in, whole or not, with what TSVCIS alone is asked. The tests are those of `name`.
-fn last_frame(unread: &[u8]) -> Found
+// The frame that a last octet x below 128 names. 2400 and 600 bps are told apart by arithmetic: a jump would often be guessed wrong
+// where the two stand in turn, or where damaged octets do.
+fn low_frame(x: u8) -> Shape
+    requires { ⌜ x < 128 ⌝ }
+    ensures { λ r. ⌜ Got r ≡ foundOf (named x) ⌝ }
+{
+    let own = 1 + (x / 64) as u32;
+    if x < 64 {
+        return plain(PLAIN_2400, 7, 0, 2400, own, own);
+    }
+    plain(PLAIN_600, 7, 64, 600, own, own)
+}
+
+// The frame that the unread octets end in, whole or not, where their last octet x is from 128 on; with what TSVCIS alone is asked.
+fn high_frame(unread: &[u8], x: u8) -> Found
+    requires { ⌜ EndsFrom 128 (now unread) x ⌝ }
     ensures { λ r. ⌜ fitted (length (now (unread .entry))) r ≡ foundOf (lastFrame (now (unread .entry)) (length (now (unread .entry)))) ⌝ }
 {
-    let n = unread.len();
-    if n == 0 {
-        return Found::Bad(refusal::CUT);
-    }
-    let x = unread[n - 1];
-    if x < 64 {
-        return Found::Got(shape_2400());
-    }
-    if x < 128 {
-        return Found::Got(shape_600());
-    }
     if 191 < x {
         return tsvcis_frame(unread, x);
     }
-    other_frame(n, x)
+    other_frame(unread.len(), x)
 }
 
-// A frame at the end of n unread octets, whole, with its own bit among those allowed: comfort noise is last, and a coder frame
-// stands before none of another rate.
-fn admit(n: usize, shape: Shape, allowed: u32) -> Found
-    ensures { λ r. ⌜ r ≡ rated allowed (fitShape n shape) ⌝ }
+// The step over a frame at the end of n unread octets, whole, with its own bit among those allowed: comfort noise is last, and a
+// coder frame stands before none of another rate. (What is left is known here: behind the answers' join the compiler would subtract
+// a frame's octets that it knows.)
+fn admit(n: usize, shape: Shape, allowed: u32) -> Stepped
+    ensures { λ r. ⌜ r ≡ stepped n (rated allowed (fitShape n shape)) ⌝ }
 {
     if n < shape.wire {
-        return Found::Bad(refusal::CUT);
+        return Stepped::Bad(refusal::CUT);
     }
     if allowed & shape.own != 0 {
-        return Found::Got(shape);
+        let left = n - shape.wire;
+        return Stepped::Over(shape, left);
     }
     if shape.wire == NOISE_OCTETS {
-        return Found::Bad(refusal::NOISE_NOT_LAST);
+        return Stepped::Bad(refusal::NOISE_NOT_LAST);
     }
-    Found::Bad(refusal::MIXED_RATES)
+    Stepped::Bad(refusal::MIXED_RATES)
 }
 
 // What may stand where nothing is read yet, in bits.
@@ -300,14 +323,22 @@ pub fn anything() -> u32
     15
 }
 
-// The walk's step: the frame that the unread octets end in, where what was read behind it allows these bits; or the refusal, in
-// document 01's order.
-pub fn step(unread: &[u8], allowed: u32) -> Found
-    ensures { λ r. ⌜ r ≡ foundOf (barred allowed (lastFrame (now (unread .entry)) (length (now (unread .entry))))) ⌝ }
+// The walk's step: over the frame that the unread octets end in, where what was read behind it allows these bits; or the refusal, in
+// document 01's order. Frames of 2400 and 600 bps, the commonest, are admitted by themselves, with their octets known.
+pub fn step(unread: &[u8], allowed: u32) -> Stepped
+    ensures { λ r. ⌜ r ≡ stepped (length (now (unread .entry))) (foundOf (barred allowed (lastFrame (now (unread .entry)) (length (now (unread .entry)))))) ⌝ }
 {
-    let found = last_frame(unread);
+    let n = unread.len();
+    if n == 0 {
+        return Stepped::Bad(refusal::CUT);
+    }
+    let x = unread[n - 1];
+    if x < 128 {
+        return admit(n, low_frame(x), allowed);
+    }
+    let found = high_frame(unread, x);
     match found {
-        Found::Bad(number) => Found::Bad(number),
-        Found::Got(shape) => admit(unread.len(), shape, allowed),
+        Found::Bad(number) => Stepped::Bad(number),
+        Found::Got(shape) => admit(n, shape, allowed),
     }
 }

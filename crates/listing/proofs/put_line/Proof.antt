@@ -1,7 +1,6 @@
-use mathlib.Core.Path.{refl, ap, _∙_}
-use Prim.Native.Nat.{ℕ, _*_, _≤_}
+use mathlib.Core.Path.{refl, ap}
+use Prim.Native.Nat.{ℕ, _-_, _*_, _≤_}
 use native.Mathlib.Omega.{arith}
-use Rattle.wire.specs.Frame.{ticksOfRate}
 use Rattle.wire.proofs.Rates.{product-most}
 use Rattle.payload.proofs.Seen.{went-few}
 use Rattle.listing.proofs.Rows.{line-whole, line-refused}
@@ -9,12 +8,13 @@ use borrow.Author.Needs.{needs}
 use Rattle.listing.proofs.put_line.Statement.{statement}
 use Rattle.listing.proofs.put_line.Tie as tie
 
--- the product is small
-few : (c : tie.After-struct-known) → c .before .before .before .before .before .before .walked .given .0 .0 .coders * c .before .before .before .ticks-of-rate .result ≤ 144000
-few c =
-    product-most _ _ _
-    (went-few _ (λ i. c .before .before .before .before .before .before .before .before .before .shared-slice-known .given i .fits) (c .before .before .before .before .before .before .before .before .walk .ensures .answer) _ (c .before .before .before .before .before .before .walked .given .1))
-    (c .before .before .before .ticks-of-rate .ensures)
+-- frames and comfort noise are few
+few : (c : tie.After-struct-known) → (c .before .before .before .walked .given .0 .0 .noise ≤ c .before .before .before .walked .given .0 .0 .frames) × (c .before .before .before .walked .given .0 .0 .frames ≤ 200)
+few c = went-few _ (λ i. c .before .before .before .before .before .before .shared-slice-known .given i .fits) (c .before .before .before .before .before .walk .ensures .answer) _ (c .before .before .before .walked .given .1)
+
+-- and so is the product
+small : (c : tie.After-wide) → (c .before .before .before .before .before .before .walked .given .0 .0 .frames - c .before .before .before .before .before .before .walked .given .0 .0 .noise) * c .before .before .before .before .ticks-of .result ≤ 144000
+small c = product-most _ _ _ (omega (arith, few (c .before .before .before) .1)) (c .before .before .before .before .ticks-of .ensures)
 
 walk-requires : tie.Need-walk-requires
 walk-requires c κs = search needs
@@ -22,20 +22,23 @@ walk-requires c κs = search needs
 enum-known-walked : tie.Need-enum-known-walked
 enum-known-walked c = search needs
 
-rate-of-requires : tie.Need-rate-of-requires
-rate-of-requires c κs = search needs
+ticks-of-requires : tie.Need-ticks-of-requires
+ticks-of-requires c κs = search needs
 
-ticks-of-rate-requires : tie.Need-ticks-of-rate-requires
-ticks-of-rate-requires c κs = search needs
+cast-coders : tie.Need-cast-coders
+cast-coders c = omega (arith, few c .1)
+
+sub-coders : tie.Need-sub-coders
+sub-coders c = few (c .before) .0
 
 wide-requires : tie.Need-wide-requires
 wide-requires c κs = search needs
 
 mul-put-row : tie.Need-mul-put-row
-mul-put-row c = omega (arith, few c)
+mul-put-row c = omega (arith, small c)
 
 cast-put-row : tie.Need-cast-put-row
-cast-put-row c = omega (arith, few c)
+cast-put-row c = omega (arith, small c)
 
 put-row-requires : tie.Need-put-row-requires
 put-row-requires c κs = search needs
@@ -59,8 +62,8 @@ returns : tie.Need-returns
 returns c =
     let z = c .before .before .before .before .before .before .before .before .before .before .before .before .before .before in
     line-whole (z .args .out .now) (z .args .at) (z .args .n) (z .args .payload .now) (λ i. c .before .before .before .before .before .before .before .before .before .before .before .before .shared-slice-known .given i .fits)
-    (c .before .before .before .before .before .before .before .before .before .before .before .walk .ensures .answer) _ (c .before .before .before .before .before .before .before .before .before .walked .given .1) (c .before .before .before .before .wide .ensures)
-    (ap (λ (t : ℕ). c .before .before .before .before .before .before .before .before .before .walked .given .0 .0 .coders * t) (c .before .before .before .before .before .before .ticks-of-rate .ensures ∙ ap ticksOfRate (c .before .before .before .before .before .before .before .rate-of .ensures)))
+    (c .before .before .before .before .before .before .before .before .before .before .before .walk .ensures .answer) _ (c .before .before .before .before .before .before .before .before .before .walked .given .1) (c .before .before .before .wide .ensures)
+    (ap (λ (t : ℕ). (c .before .before .before .before .before .before .before .before .before .walked .given .0 .0 .frames - c .before .before .before .before .before .before .before .before .before .walked .given .0 .0 .noise) * t) (c .before .before .before .before .before .before .before .ticks-of .ensures))
     (c .before .before .put-row .ensures)
 
 same-length-2 : tie.Need-same-length-2
@@ -75,8 +78,9 @@ put-line-spec =
     (tie.spec
     walk-requires
     enum-known-walked
-    rate-of-requires
-    ticks-of-rate-requires
+    ticks-of-requires
+    cast-coders
+    sub-coders
     wide-requires
     mul-put-row
     cast-put-row

@@ -6,7 +6,7 @@ returns : tie.Need-returns
 returns c = admit-cut _ _ _ (c .if1 .taken)
 
 returns-2 : tie.Need-returns-2
-returns-2 c = admit-got _ _ _ (c .before .before .if1 .left) (c .if2 .taken)
+returns-2 c = admit-got _ _ _ (c .before .before .before .if1 .left) (c .before .if2 .taken)
 
 returns-3 : tie.Need-returns-3
 returns-3 c = admit-late _ _ _ (c .before .before .before .before .if1 .left) (c .before .before .if2 .left) (c .if3 .taken)

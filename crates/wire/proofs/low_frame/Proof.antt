@@ -1,0 +1,28 @@
+use mathlib.Core.Path.{ap, _∙_}
+use native.Mathlib.Omega.{arith}
+use Rattle.wire.specs.declared.Found.the-variants.{Got}
+use Rattle.wire.proofs.Shapes.{low-2400, low-600}
+use borrow.Author.Needs.{needs}
+use Rattle.wire.proofs.low_frame.Statement.{statement}
+use Rattle.wire.proofs.low_frame.Tie as tie
+
+cast-own : tie.Need-cast-own
+cast-own c = search needs
+
+add-own : tie.Need-add-own
+add-own c = search needs
+
+plain-requires : tie.Need-plain-requires
+plain-requires c κs = search needs
+
+returns : tie.Need-returns
+returns c = ap Got (c .plain .ensures) ∙ low-2400 _ (omega arith)
+
+plain-requires-2 : tie.Need-plain-requires-2
+plain-requires-2 c κs = search needs
+
+returns-2 : tie.Need-returns-2
+returns-2 c = ap Got (c .plain2 .ensures) ∙ low-600 _ (omega arith) (omega arith)
+
+pub low-frame-spec : {M : Type 1} → statement M
+low-frame-spec = tie.close (tie.spec cast-own add-own plain-requires returns plain-requires-2 returns-2)
