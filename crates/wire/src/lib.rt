@@ -119,10 +119,24 @@ fn plain(kind: u16, size: usize, code: u8, rate: u32, own: u32, before: u32) -> 
     }
 }
 
+// 2400 bps, with its own bit, which is 1.
+fn with_2400(own: u32) -> Shape
+    ensures { λ r. ⌜ r ≡ plainShape 1 7 0 2400 own own ⌝ }
+{
+    plain(PLAIN_2400, 7, 0, 2400, own, own)
+}
+
+// 600 bps, with its own bit, which is 2.
+fn with_600(own: u32) -> Shape
+    ensures { λ r. ⌜ r ≡ plainShape 3 7 64 600 own own ⌝ }
+{
+    plain(PLAIN_600, 7, 64, 600, own, own)
+}
+
 fn shape_2400() -> Shape
     ensures { λ r. ⌜ r ≡ shapeOf bps2400 0 ⌝ }
 {
-    plain(PLAIN_2400, 7, 0, 2400, 1, 1)
+    with_2400(1)
 }
 
 fn shape_1200() -> Shape
@@ -134,7 +148,7 @@ fn shape_1200() -> Shape
 pub fn shape_600() -> Shape
     ensures { λ r. ⌜ r ≡ shapeOf bps600 0 ⌝ }
 {
-    plain(PLAIN_600, 7, 64, 600, 2, 2)
+    with_600(2)
 }
 
 fn shape_noise() -> Shape
@@ -281,9 +295,9 @@ fn low_frame(x: u8) -> Shape
 {
     let own = 1 + (x / 64) as u32;
     if x < 64 {
-        return plain(PLAIN_2400, 7, 0, 2400, own, own);
+        return with_2400(own);
     }
-    plain(PLAIN_600, 7, 64, 600, own, own)
+    with_600(own)
 }
 
 // The frame that the unread octets end in, whole or not, where their last octet x is from 128 on; with what TSVCIS alone is asked.

@@ -12,17 +12,17 @@ cast-own c = search needs
 add-own : tie.Need-add-own
 add-own c = search needs
 
-plain-requires : tie.Need-plain-requires
-plain-requires c κs = search needs
+with-2400-requires : tie.Need-with-2400-requires
+with-2400-requires c κs = search needs
 
 returns : tie.Need-returns
-returns c = ap Got (c .plain .ensures) ∙ low-2400 _ (omega arith)
+returns c = ap Got (c .with-2400 .ensures) ∙ low-2400 _ (omega arith)
 
-plain-requires-2 : tie.Need-plain-requires-2
-plain-requires-2 c κs = search needs
+with-600-requires : tie.Need-with-600-requires
+with-600-requires c κs = search needs
 
 returns-2 : tie.Need-returns-2
-returns-2 c = ap Got (c .plain2 .ensures) ∙ low-600 _ (omega arith) (omega arith)
+returns-2 c = ap Got (c .with-600 .ensures) ∙ low-600 _ (omega arith) (omega arith)
 
 pub low-frame-spec : {M : Type 1} → statement M
-low-frame-spec = tie.close (tie.spec cast-own add-own plain-requires returns plain-requires-2 returns-2)
+low-frame-spec = tie.close (tie.spec cast-own add-own with-2400-requires returns with-600-requires returns-2)

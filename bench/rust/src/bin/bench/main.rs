@@ -41,10 +41,6 @@ fn measure_packets(table: &mut Table, mix: &Mix) {
 }
 
 fn measure_small(table: &mut Table, small: &Small) {
-    table.line("ptime", small.name, |calls, _, i| {
-        let (rate, frames) = small.timed[i];
-        calls.ptime(rate, frames).time
-    });
     table.line("unpack", small.name, |calls, lent, i| {
         calls.unpack(mode(i), &small.bodies[i], lent.fields).octets
     });
@@ -57,6 +53,18 @@ fn measure_small(table: &mut Table, small: &Small) {
     table.line("settings write", small.name, |calls, lent, i| {
         calls.settings_write(small.settings[i], lent.out).octets
     });
+}
+
+fn measure_ptime(table: &mut Table, small: &[Small]) {
+    table.line("ptime", "2400 bps", |calls, _, i| {
+        calls.ptime(2400, i + 1).time
+    });
+    for small in small {
+        table.line("ptime", small.name, |calls, _, i| {
+            let (rate, frames) = small.timed[i];
+            calls.ptime(rate, frames).time
+        });
+    }
 }
 
 fn main() {
@@ -75,9 +83,6 @@ fn main() {
         for mix in &mixes {
             measure_packets(table, mix);
         }
-        table.line("ptime", "2400 bps", |calls, _, i| {
-            calls.ptime(2400, i + 1).time
-        });
         for small in &small {
             measure_small(table, small);
         }
@@ -88,5 +93,11 @@ fn main() {
     if mixes.iter().any(|mix| listings.has("listing", mix.name)) {
         lists::measure(&mut listings, &mixes, &Programs::of(lists), scratch);
         lists::print(&listings);
+    }
+    let mut ptime = Table::new(word);
+    ptime.sweep(|table| measure_ptime(table, &small));
+    if !ptime.is_empty() {
+        println!("\nptime, whose time is its call's, and which has no goal");
+        ptime.print("ns a call");
     }
 }

@@ -83,6 +83,10 @@ impl<'a> Table<'a> {
         }
     }
 
+    pub fn is_empty(&self) -> bool {
+        self.lines.is_empty()
+    }
+
     pub fn has(&self, what: &str, mix: &str) -> bool {
         format!("{what} {mix}").contains(self.word)
     }
