@@ -287,8 +287,8 @@ fn other_frame(n: usize, x: u8) -> Found
     last_octet(x)
 }
 
-// The frame that a last octet x below 128 names. 2400 and 600 bps are told apart by arithmetic: a jump would often be guessed wrong
-// where the two stand in turn, or where damaged octets do.
+// The frame that a last octet x below 128 names. The walk needs only the own bits of the two rates, and those are arithmetic: a jump
+// would often be guessed wrong where octets are damaged.
 fn low_frame(x: u8) -> Shape
     requires { ⌜ x < 128 ⌝ }
     ensures { λ r. ⌜ Got r ≡ foundOf (named x) ⌝ }
@@ -312,8 +312,8 @@ fn high_frame(unread: &[u8], x: u8) -> Found
 }
 
 // The step over a frame at the end of n unread octets, whole, with its own bit among those allowed: comfort noise is last, and a
-// coder frame stands before none of another rate. (What is left is known here: behind the answers' join the compiler would subtract
-// a frame's octets that it knows.)
+// coder frame stands before none of another rate. (What is left is subtracted here, where the compiler may know the frame's octets;
+// where its ways have joined, it knows none.)
 fn admit(n: usize, shape: Shape, allowed: u32) -> Stepped
     ensures { λ r. ⌜ r ≡ stepped n (rated allowed (fitShape n shape)) ⌝ }
 {
