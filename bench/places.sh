@@ -2,8 +2,8 @@
 # The functions that are measured, each at eight places: where a function stands in memory moves a line of the benchmark by up to
 # a half, for each implementation. Its place within a page of 4,096 octets is another in each copy, and another than that of the
 # functions beside it.
-# places.sh OUT NAME=FILE...: of each implementation the object or archive FILE, whose functions are NAME_count and so on. Makes the
-# archive OUT with a table places_NAME of its functions, place by place.
+# places.sh OUT NAME=PREFIX:FILE...: of each implementation the object or archive FILE, whose functions are PREFIX_count and so on.
+# Makes the archive OUT with a table places_NAME of its functions, place by place.
 set -euo pipefail
 
 # In the order of `Calls`, in rust/src/bin/bench/calls.rs.
@@ -28,13 +28,13 @@ moved() {
     ld -r -o "$work/moved.o" "$work/before.o" "$1"
 }
 
-# renamed NAME PLACE: the functions' names with the place's number, all other names kept from view.
+# renamed NAME PREFIX PLACE: the functions' names with the implementation's and the place's, all other names kept from view.
 renamed() {
     local words=()
     for function in $functions; do
-        words+=(--redefine-sym "$1_$function=$1_${function}_$2" --keep-global-symbol "$1_${function}_$2")
+        words+=(--redefine-sym "$2_$function=$1_${function}_$3" --keep-global-symbol "$1_${function}_$3")
     done
-    objcopy "${words[@]}" "$work/moved.o" "$work/$1_$2.o"
+    objcopy "${words[@]}" "$work/moved.o" "$work/$1_$3.o"
 }
 
 # table NAME: the table's text.
@@ -50,10 +50,12 @@ table() {
 step=37
 for pair in "$@"; do
     name=${pair%%=*}
-    ld -r --whole-archive -o "$work/whole.o" "${pair#*=}"
+    from=${pair#*=}
+    prefix=${from%%:*}
+    ld -r --whole-archive -o "$work/whole.o" "${from#*:}"
     for place in $places; do
         moved "$work/whole.o" "$place" "$step"
-        renamed "$name" "$place"
+        renamed "$name" "$prefix" "$place"
     done
     table "$name" >>"$work/tables.s"
     step=$((step + 22))

@@ -1,14 +1,39 @@
-/* The payload library as a C or C++ host calls it: link libhost.a, which needs no other library.
+/* moult: reads and writes RTP payloads of MELPe and TSVCIS speech frames (RFC 8817), and tells
+   their time, setting text (fmtp) and 600 bps fields (RFC 8130). Link with -lmoult, or with
+   libmoult.a; it needs no other library. moult(3) has the whole story; this is a first host:
+
+       uint16_t rows[MOULT_MAX_NUMBERS];
+       uint8_t bodies[MOULT_MAX_OCTETS];
+       moult_reading r = moult_read(payload, n, rows, MOULT_MAX_NUMBERS, bodies, MOULT_MAX_OCTETS);
+       if (r.number != MOULT_ACCEPTED)
+           printf("refused at %zu: %s\n", r.place, moult_refusal_text(r.number));
+       const uint8_t *body = bodies;
+       for (size_t i = 0; i < r.rows; i++) {
+           uint16_t kind = rows[2 * i], tc = rows[2 * i + 1];
+           size_t octets = moult_body_octets(kind, tc);
+           use_frame(kind, body, octets);
+           body += octets;
+       }
+
+   A payload is what stands behind the RTP header: up to 1,400 octets, the frames one after
+   another, oldest first. Each frame is given to the host as a row and a body. A row is two
+   numbers: the frame's kind, and its TC, the number of augmentation octets of a TSVCIS frame (0
+   for any other). A body is the frame's octets without the rate code bits and the count.
 
    Every call is a function of what it is lent. Buffers stay the caller's, nothing is kept after
-   the call, nothing is allocated, and calls from several threads do not meet. Any pointer may be
-   NULL where its length is 0. Buffers that are written must not overlap any other buffer lent in
-   the same call. Any octets of any length may be handed in.
+   the call, nothing is allocated, no error is left in errno, and any thread may call at any time.
+   Any octets of any length may be handed in. A pointer may be NULL where its length is 0. Buffers
+   that are written must not overlap any other buffer lent in the same call.
 
    An answer with number 0 (and place 0) is accepted: the first places of the lent buffers are
    filled, as many as the answer reports, and everything beyond them is unchanged. Any other number
    is a refusal: its place says where or how much, all other values are 0, and no lent memory has
-   changed. */
+   changed.
+
+   Later versions may add functions, kinds and refusal numbers. A host takes a number that it does
+   not know for a refusal like any other, and steps over the body of a kind that it does not know
+   by moult_body_octets. What is declared here stays as it is as long as the library is called
+   libmoult.so.0. */
 #ifndef MOULT_H
 #define MOULT_H
 
@@ -19,9 +44,14 @@
 extern "C" {
 #endif
 
-/* Most octets of a payload, and most frames in one. */
+/* The version of this header, 0.1.0: 10,000 times the first number, 100 times the second, and the
+   third. moult_version() is that of the library. */
+#define MOULT_VERSION 100
+
+/* Most octets of a payload, most frames in one, and the numbers of that many rows. */
 #define MOULT_MAX_OCTETS 1400
 #define MOULT_MAX_FRAMES 200
+#define MOULT_MAX_NUMBERS 400
 /* Octets that hold any setting text written, numbers that hold the fields of any mode, and the
    octets of a 600 bps body. */
 #define MOULT_MAX_SETTINGS 31
@@ -34,38 +64,45 @@ enum {
     MOULT_KIND_1200 = 2,          /* body of 11 octets, last at most 1 */
     MOULT_KIND_600 = 3,           /* body of 7 octets, last at most 63 */
     MOULT_KIND_COMFORT_NOISE = 4, /* body of 2 octets, last at most 31 */
-    MOULT_KIND_TSVCIS = 5         /* body of 7 + TC octets, the seventh at most 63 */
+    MOULT_KIND_TSVCIS = 5         /* body of 7 + TC octets, the seventh at most 63: a 2400 bps frame
+                                     and its augmentation; TC is 1 to 255 */
 };
 
-/* Refusal numbers. "Unread" is the number of octets up to the end of the refused frame. */
+/* Refusal numbers. "Unread" is the number of octets from the payload's start up to the end of the
+   refused frame: payloads are read from the last frame to the first. */
 enum {
     MOULT_ACCEPTED = 0,
     MOULT_TOO_LONG = 1,                /* place: 1400 */
-    MOULT_FRAME_CUT = 2,               /* place: unread */
+    MOULT_FRAME_CUT = 2,               /* cut at its front; place: unread */
     MOULT_RESERVED_BITS = 3,           /* place: unread; writer: index in the lent bodies, counted
                                           from their start; fields: index in the body */
     MOULT_LONG_COUNT_ZERO = 4,         /* place: unread */
     MOULT_LONG_COUNT_SHORT_RANGE = 5,  /* long count of 15 to 77; place: unread */
     MOULT_COMFORT_NOISE_NOT_LAST = 6,  /* place: unread; writer: row, from 0 */
     MOULT_AUGMENTATION_NOT_2400 = 7,   /* place: unread */
-    MOULT_RATES_MIXED = 8,             /* place: unread; writer: row */
+    MOULT_RATES_MIXED = 8,             /* place: unread; writer: row, from 0 */
     MOULT_NUMBERS_TOO_SHORT = 9,       /* number list; place: rows needed, or fields needed */
     MOULT_OCTETS_TOO_SHORT = 10,       /* octet buffer; place: octets needed */
     MOULT_ODD_ROWS = 11,               /* place: length of the row list */
-    MOULT_UNKNOWN = 12,                /* kind, rate or number of frames; place: writer row, else 0 */
-    MOULT_WRONG_TC = 13,               /* place: row */
+    MOULT_UNKNOWN = 12,                /* kind, rate or number of frames; place: writer: row, from
+                                          0; else 0 */
+    MOULT_WRONG_TC = 13,               /* place: row, from 0 */
     MOULT_WRONG_LENGTH = 14,           /* place: length needed */
-    MOULT_WRONG_SETTINGS = 15,         /* place: 0 */
+    MOULT_WRONG_SETTINGS = 15,         /* text or settings; place: 0 */
     MOULT_WRONG_MODE = 16,             /* place: 0 */
     MOULT_FIELD_TOO_LARGE = 17         /* place: field, from 0 */
 };
 
-/* A reading: rows (two numbers each) and body octets put into the lent buffers. */
+/* A reading: rows (two numbers each) and body octets put into the lent buffers; the rate of the
+   payload's coder frames (2400, 1200 or 600; 0 where there are none) and how long they last, in
+   ticks of 1/8000 second. */
 typedef struct {
     uint32_t number;
+    uint32_t rate;
     size_t place;
     size_t rows;
     size_t octets;
+    size_t ticks;
 } moult_reading;
 
 /* A writing: octets put into the lent buffer; for moult_unpack, fields. */
@@ -112,28 +149,36 @@ typedef struct {
     moult_settings settings;
 } moult_settings_reading;
 
+/* The version of the library that is linked, as MOULT_VERSION. */
+uint32_t moult_version(void);
+
 /* Counts the frames of a payload of n octets: 0 to 200, or minus the refusal number (-1 to -8).
    Only the empty payload is 0. */
 int32_t moult_count(const uint8_t *payload, size_t n);
 
-/* Reads a payload of n octets: for each frame, oldest first, its kind and TC (0 for kinds other
-   than TSVCIS) into rows, and its body, without rate code bits and count octets, into bodies.
+/* Reads a payload of n octets: for each frame, oldest first, its kind and TC into rows, and its
+   body into bodies.
    Refuses 1, then from the last frame to the first 2, 4, 5, 3, 2, 6, 7, 8 with the place "unread";
    then 9 with the rows needed if rows_n, halved and rounded down, is too small, and 10 with the
-   octets needed if bodies_n is. 400 numbers and 1,400 octets are enough for any payload. */
+   octets needed if bodies_n is. MOULT_MAX_NUMBERS and MOULT_MAX_OCTETS are enough for any payload. */
 moult_reading moult_read(const uint8_t *payload, size_t n, uint16_t *rows, size_t rows_n,
                          uint8_t *bodies, size_t bodies_n);
 
+/* The octets of the body of a row: 7, 11, 7, 2 or 7 + TC. 0 where the kind is unknown or the TC is
+   wrong for it; no body has 0 octets. */
+size_t moult_body_octets(uint16_t kind, uint16_t tc);
+
 /* Writes the payload of rows (rows_n numbers, two a frame) and bodies (one after another) into out.
    Refuses 11 with rows_n; 1 for more than 200 rows; row by row, with the row as place, 12, 13, 6
-   (the comfort noise row that another follows), 8 (the first row whose rate differs); 1 for the
-   total; 14 with the bodies' length needed; 3 with the index of the first bad body end in bodies;
-   10 with the octets needed. 1,400 octets are enough for any payload. */
+   (the comfort noise row that another follows), 8 (the first row whose rate differs from an earlier
+   one); 1 for more than 1,400 octets; 14 with the bodies' length needed; 3 with the index of the
+   first bad body end in bodies; 10 with the octets needed. MOULT_MAX_OCTETS are enough for any
+   payload. */
 moult_writing moult_write(const uint16_t *rows, size_t rows_n, const uint8_t *bodies,
                           size_t bodies_n, uint8_t *out, size_t out_n);
 
-/* The ticks of 1/8000 second that a payload's coder frames last; comfort noise adds none.
-   Refuses as moult_read does, 1 to 8. */
+/* The ticks of 1/8000 second that a payload's coder frames last: 180, 540 or 720 each at 2400, 1200
+   or 600 bps; comfort noise adds none. Refuses as moult_read does, 1 to 8. */
 moult_ticks moult_packet_ticks(const uint8_t *payload, size_t n);
 
 /* The ptime in milliseconds, rounded up, of 1 to 200 frames at rate 2400, 1200 or 600.
@@ -151,13 +196,13 @@ moult_part moult_frame_or(const uint8_t *payload, size_t n, size_t row, const ui
                           size_t stand_in_n);
 
 /* Reads a setting text of n octets, such as "bitrate=2400,600;tcmax=101" (no closing NUL).
-   A missing bitrate means 2400 only, a missing tcmax 35; names in any letter case.
+   A missing bitrate means 2400 only, a missing tcmax 35; names in any letter case; no spaces.
    Refuses 15 with place 0. */
 moult_settings_reading moult_settings_read(const uint8_t *text, size_t n);
 
 /* Writes settings, in moult_settings' order, as text: bitrate and then tcmax, lower case, no
    closing NUL.
-   Refuses 15 with place 0, then 10 with the octets needed; 31 are enough. */
+   Refuses 15 with place 0, then 10 with the octets needed; MOULT_MAX_SETTINGS are enough. */
 moult_writing moult_settings_write(uint16_t first, uint16_t second, uint16_t third, uint16_t tcmax,
                                    uint8_t *out, size_t out_n);
 
@@ -171,6 +216,71 @@ moult_writing moult_unpack(uint8_t mode, const uint8_t *body, size_t body_n, uin
    place 7. */
 moult_writing moult_pack(uint8_t mode, const uint16_t *fields, size_t fields_n, uint8_t *out,
                          size_t out_n);
+
+/* A refusal number in English, for a log. Of a moult_count below 0 it is the number with the sign
+   taken away. */
+static inline const char *moult_refusal_text(uint32_t number)
+{
+    switch (number) {
+    case MOULT_ACCEPTED:
+        return "accepted";
+    case MOULT_TOO_LONG:
+        return "too long";
+    case MOULT_FRAME_CUT:
+        return "frame cut at the front";
+    case MOULT_RESERVED_BITS:
+        return "reserved or foreign bits set";
+    case MOULT_LONG_COUNT_ZERO:
+        return "long count is 0";
+    case MOULT_LONG_COUNT_SHORT_RANGE:
+        return "long count of 15 to 77";
+    case MOULT_COMFORT_NOISE_NOT_LAST:
+        return "comfort noise not last";
+    case MOULT_AUGMENTATION_NOT_2400:
+        return "augmentation not behind a 2400 bps frame";
+    case MOULT_RATES_MIXED:
+        return "rates mixed";
+    case MOULT_NUMBERS_TOO_SHORT:
+        return "number list too short";
+    case MOULT_OCTETS_TOO_SHORT:
+        return "octet buffer too short";
+    case MOULT_ODD_ROWS:
+        return "odd row list";
+    case MOULT_UNKNOWN:
+        return "unknown kind, rate or number of frames";
+    case MOULT_WRONG_TC:
+        return "TC wrong for the kind";
+    case MOULT_WRONG_LENGTH:
+        return "length wrong";
+    case MOULT_WRONG_SETTINGS:
+        return "setting text or settings wrong";
+    case MOULT_WRONG_MODE:
+        return "mode not 1 to 3";
+    case MOULT_FIELD_TOO_LARGE:
+        return "field too large";
+    default:
+        return "refused, by a number that this header does not know";
+    }
+}
+
+/* A kind in English. */
+static inline const char *moult_kind_text(uint16_t kind)
+{
+    switch (kind) {
+    case MOULT_KIND_2400:
+        return "2400 bps";
+    case MOULT_KIND_1200:
+        return "1200 bps";
+    case MOULT_KIND_600:
+        return "600 bps";
+    case MOULT_KIND_COMFORT_NOISE:
+        return "comfort noise";
+    case MOULT_KIND_TSVCIS:
+        return "TSVCIS";
+    default:
+        return "a kind that this header does not know";
+    }
+}
 
 #ifdef __cplusplus
 }

@@ -1,9 +1,9 @@
-/* Counts and lists a file of payloads, each behind its length in groups of seven bits, low group
+/* Lists a file of payloads, each behind its length in groups of seven bits, low group
    first, 128 meaning "more", shortest form, at most two groups. For each payload a line: its
    number, "ok", frames and ticks; or its number, "refused", refusal number and place. Then "end"
    (or "cut", where a length is bad or the file ends inside a payload) and the number of payloads.
    A file that cannot be read to its end gets no last line: a message says so, and the exit is 1. */
-#include "moult.h"
+#include <moult.h>
 
 #include <stdio.h>
 
@@ -25,13 +25,16 @@ static int read_length(FILE *in, size_t *length)
     return *length <= MOULT_MAX_OCTETS ? LENGTH_GOOD : LENGTH_BAD;
 }
 
+/* One reading tells everything about a payload; the rows and bodies are not needed here. */
 static void print_line(unsigned long number, const uint8_t *payload, size_t length)
 {
-    moult_ticks time = moult_packet_ticks(payload, length);
-    if (time.number != MOULT_ACCEPTED)
-        printf("%lu refused %u %zu\n", number, (unsigned)time.number, time.place);
+    static uint16_t rows[MOULT_MAX_NUMBERS];
+    static uint8_t bodies[MOULT_MAX_OCTETS];
+    moult_reading r = moult_read(payload, length, rows, MOULT_MAX_NUMBERS, bodies, MOULT_MAX_OCTETS);
+    if (r.number != MOULT_ACCEPTED)
+        printf("%lu refused %u %zu\n", number, (unsigned)r.number, r.place);
     else
-        printf("%lu ok %d %zu\n", number, (int)moult_count(payload, length), time.ticks);
+        printf("%lu ok %zu %zu\n", number, r.rows, r.ticks);
 }
 
 /* Gives 0 if the file cannot be read to its end. */

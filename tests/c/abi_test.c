@@ -1,9 +1,9 @@
-/* The header and the static library from C and from C++: sizes, NULL with length 0, and document
-   01's bench payloads. Prints how many checks held; the first that does not ends the run. */
+/* The header and the library from C and from C++: sizes and places of the answers' fields, NULL with
+   length 0, texts, and each function over the bench payloads of docs/FORMAT.md. */
 #include "moult.h"
 
-#include <stdio.h>
-#include <stdlib.h>
+#include "check.h"
+
 #include <string.h>
 
 #ifdef __cplusplus
@@ -12,32 +12,25 @@
 #define STATIC_CHECK(what) _Static_assert(what, #what)
 #endif
 
-STATIC_CHECK(sizeof(moult_reading) == 4 * sizeof(size_t));
+STATIC_CHECK(sizeof(moult_reading) == 5 * sizeof(size_t));
+STATIC_CHECK(offsetof(moult_reading, rate) == 4);
+STATIC_CHECK(offsetof(moult_reading, place) == sizeof(size_t));
+STATIC_CHECK(offsetof(moult_reading, ticks) == 4 * sizeof(size_t));
 STATIC_CHECK(sizeof(moult_writing) == 3 * sizeof(size_t));
 STATIC_CHECK(sizeof(moult_ticks) == 3 * sizeof(size_t));
 STATIC_CHECK(sizeof(moult_millis) == 3 * sizeof(size_t));
 STATIC_CHECK(sizeof(moult_part) == 3 * sizeof(size_t));
 STATIC_CHECK(sizeof(moult_settings) == 8);
 STATIC_CHECK(offsetof(moult_settings_reading, settings) == 2 * sizeof(size_t));
-
-static unsigned long checks;
-
-static void check(int holds, const char *what, int line)
-{
-    checks++;
-    if (!holds) {
-        fprintf(stderr, "%s:%d: does not hold: %s\n", __FILE__, line, what);
-        exit(1);
-    }
-}
-#define CHECK(what) check((what) ? 1 : 0, #what, __LINE__)
+STATIC_CHECK(sizeof(moult_settings_reading) == 3 * sizeof(size_t));
+STATIC_CHECK(MOULT_MAX_NUMBERS == 2 * MOULT_MAX_FRAMES);
 
 #define GUARD 0xA5
 static uint8_t octets[1500];
-static uint16_t rows[402];
-static uint8_t bodies[1402];
+static uint16_t rows[MOULT_MAX_NUMBERS + 2];
+static uint8_t bodies[MOULT_MAX_OCTETS + 2];
 
-/* Reads a payload written as in document 01, such as "00*6 40"; gives its length. */
+/* Puts a payload such as "00*6 40", six zeros and 64, into octets; gives its length. */
 static size_t payload_of(const char *text)
 {
     size_t n = 0;
@@ -59,7 +52,7 @@ static moult_reading read_into_guarded(const char *text)
     size_t n = payload_of(text);
     memset(rows, GUARD, sizeof rows);
     memset(bodies, GUARD, sizeof bodies);
-    return moult_read(octets, n, rows, 400, bodies, 1400);
+    return moult_read(octets, n, rows, MOULT_MAX_NUMBERS, bodies, MOULT_MAX_OCTETS);
 }
 
 static int unchanged_from(size_t row_numbers, size_t body_octets)
@@ -79,7 +72,10 @@ static void one_row(const char *text, unsigned kind, unsigned tc, size_t body, s
     moult_reading r = read_into_guarded(text);
     size_t n = payload_of(text);
     CHECK(r.number == 0 && r.place == 0 && r.rows == 1 && r.octets == body);
+    CHECK(r.rate == (ticks == 180 ? 2400u : ticks == 540 ? 1200u : ticks == 720 ? 600u : 0u));
+    CHECK(r.ticks == ticks);
     CHECK(rows[0] == kind && rows[1] == tc);
+    CHECK(moult_body_octets(rows[0], rows[1]) == body);
     CHECK(unchanged_from(2, body));
     CHECK(moult_count(octets, n) == 1);
     moult_ticks t = moult_packet_ticks(octets, n);
@@ -95,6 +91,7 @@ static void refused(const char *text, uint32_t number, size_t place)
     moult_reading r = read_into_guarded(text);
     size_t n = payload_of(text);
     CHECK(r.number == number && r.place == place && r.rows == 0 && r.octets == 0);
+    CHECK(r.rate == 0 && r.ticks == 0);
     CHECK(unchanged_from(0, 0));
     CHECK(moult_count(octets, n) == -(int32_t)number);
     moult_ticks t = moult_packet_ticks(octets, n);
@@ -124,13 +121,16 @@ static void bench_payloads(void)
     refused("00*22 0F FF", 5, 24);
     refused("00*7 01 FF", 2, 9);
     refused("00*1401", 1, 1400);
-    CHECK(read_into_guarded("00*1400").rows == 200 && unchanged_from(400, 1400));
+    moult_reading most = read_into_guarded("00*1400");
+    CHECK(most.rows == MOULT_MAX_FRAMES && most.octets == MOULT_MAX_OCTETS && most.rate == 2400);
+    CHECK(most.ticks == 36000 && unchanged_from(400, 1400));
 }
 
 static void nothing_lent(void)
 {
     moult_reading r = moult_read(NULL, 0, NULL, 0, NULL, 0);
     CHECK(r.number == 0 && r.place == 0 && r.rows == 0 && r.octets == 0);
+    CHECK(r.rate == 0 && r.ticks == 0);
     CHECK(moult_count(NULL, 0) == 0);
     CHECK(moult_packet_ticks(NULL, 0).number == 0);
     CHECK(moult_augmentation(NULL, 0, 0).length == 0);
@@ -147,6 +147,46 @@ static void nothing_lent(void)
     CHECK(w.number == 14 && w.place == 7 && w.octets == 0);
     w = moult_pack(1, NULL, 0, NULL, 0);
     CHECK(w.number == 14 && w.place == 11 && w.octets == 0);
+}
+
+static void room(void)
+{
+    size_t n = payload_of("00*14");
+    moult_reading r = moult_read(octets, n, rows, 3, bodies, MOULT_MAX_OCTETS);
+    CHECK(r.number == MOULT_NUMBERS_TOO_SHORT && r.place == 2 && r.rows == 0 && r.octets == 0);
+    CHECK(r.rate == 0 && r.ticks == 0);
+    r = moult_read(octets, n, rows, 4, bodies, 13);
+    CHECK(r.number == MOULT_OCTETS_TOO_SHORT && r.place == 14 && r.rows == 0 && r.octets == 0);
+    CHECK(r.rate == 0 && r.ticks == 0);
+}
+
+static void body_octets(void)
+{
+    CHECK(moult_body_octets(0, 0) == 0 && moult_body_octets(6, 0) == 0);
+    CHECK(moult_body_octets(65535, 0) == 0 && moult_body_octets(257, 0) == 0);
+    CHECK(moult_body_octets(MOULT_KIND_2400, 1) == 0 && moult_body_octets(MOULT_KIND_600, 1) == 0);
+    CHECK(moult_body_octets(MOULT_KIND_TSVCIS, 0) == 0);
+    CHECK(moult_body_octets(MOULT_KIND_TSVCIS, 255) == 262);
+    CHECK(moult_body_octets(MOULT_KIND_TSVCIS, 256) == 0);
+}
+
+/* Each number has a text of its own; one that is not known has one too. */
+static void texts(void)
+{
+    const char *other = moult_refusal_text(MOULT_FIELD_TOO_LARGE + 1);
+    for (uint32_t number = 0; number <= MOULT_FIELD_TOO_LARGE; number++) {
+        CHECK(strlen(moult_refusal_text(number)) > 0);
+        CHECK(strcmp(moult_refusal_text(number), other) != 0);
+        for (uint32_t earlier = 0; earlier < number; earlier++)
+            CHECK(strcmp(moult_refusal_text(number), moult_refusal_text(earlier)) != 0);
+    }
+    CHECK(strcmp(moult_refusal_text(UINT32_MAX), other) == 0);
+    CHECK(strcmp(moult_refusal_text(6), "comfort noise not last") == 0);
+    other = moult_kind_text(0);
+    for (uint16_t kind = MOULT_KIND_2400; kind <= MOULT_KIND_TSVCIS; kind++)
+        CHECK(strlen(moult_kind_text(kind)) > 0 && strcmp(moult_kind_text(kind), other) != 0);
+    CHECK(strcmp(moult_kind_text(65535), other) == 0);
+    CHECK(strcmp(moult_kind_text(4), "comfort noise") == 0);
 }
 
 static void times(void)
@@ -239,8 +279,12 @@ static void fields(void)
 
 int main(void)
 {
+    CHECK(moult_version() == MOULT_VERSION);
     bench_payloads();
     nothing_lent();
+    room();
+    body_octets();
+    texts();
     times();
     writer();
     settings();

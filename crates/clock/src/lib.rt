@@ -1,8 +1,11 @@
 // Time: ticks of 1/8000 second on the clock, milliseconds in settings. The two are types of their own and never mix.
 ghost use mathlib.Core.Path.{_≡_};
-ghost use Rattle.clock.specs.Time.{PacketTime, Ptime};
-use payload::Walked;
+ghost use Rattle.clock.specs.Time.{PacketTime, Ptime, unknownPtime};
 use refusal::Refusal;
+use wire::Summary;
+use wire::Walked;
+
+const MOST_FRAMES: usize = 200;
 
 // Ticks of 1/8000 second.
 pub struct Ticks(pub usize);
@@ -22,27 +25,26 @@ pub enum PacketMillis {
     Refused(Refusal),
 }
 
+// The ticks of what a payload holds.
+pub fn ticks_of(summary: Summary) -> Ticks
+    ensures { λ r. ⌜ r ≡ record { 0 = summary .ticks } ⌝ }
+{
+    Ticks(summary.ticks as usize)
+}
+
 // The ticks of the payload's frames.
 pub fn packet_ticks(payload: &[u8]) -> PacketTicks
     ensures { λ r. ⌜ PacketTime (now (payload .entry)) r ⌝ }
 {
-    // The empty payload is whole and lasts nothing: answered here, it takes no instruction from the others.
-    if payload.len() == 0 {
-        return PacketTicks::Lasts(Ticks(0));
-    }
-    let walked = payload::walk(payload);
+    let walked = wire::walk(payload);
     match walked {
-        Walked::Whole(extent) => {
-            let each = wire::ticks_of(extent.before);
-            let coders = extent.frames as u32 - extent.noise;
-            PacketTicks::Lasts(Ticks((coders * each) as usize))
-        }
+        Walked::Whole(summary) => PacketTicks::Lasts(ticks_of(summary)),
         Walked::Refused(refusal) => PacketTicks::Refused(refusal),
     }
 }
 
 fn unknown() -> PacketMillis
-    ensures { λ r. ⌜ r ≡ PacketMillis.Refused (record { number = 12; place = 0 }) ⌝ }
+    ensures { λ r. ⌜ r ≡ unknownPtime ⌝ }
 {
     PacketMillis::Refused(Refusal {
         number: refusal::UNKNOWN,
@@ -54,13 +56,16 @@ fn unknown() -> PacketMillis
 pub fn ptime(rate: u32, frames: usize) -> PacketMillis
     ensures { λ r. ⌜ Ptime rate frames r ⌝ }
 {
-    if 200 < frames {
+    let ticks = wire::ticks_of_rate(rate) as usize;
+    if ticks == 0 {
         return unknown();
     }
-    let millis = (frames * wire::ticks_of_rate(rate) as usize + 7) / 8;
-    // No frames, or an unknown rate: nothing else lasts 0.
-    if millis == 0 {
+    if frames == 0 {
         return unknown();
     }
+    if MOST_FRAMES < frames {
+        return unknown();
+    }
+    let millis = (frames * ticks + 7) / 8;
     PacketMillis::Lasts(Millis(millis))
 }

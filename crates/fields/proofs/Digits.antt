@@ -2,15 +2,19 @@
 use mathlib.Core.Path.{_≡_, refl, sym, ap, _∙_}
 use mathlib.Core.List.{List, [], _∷_, _++_, reverse, reverse-cons}
 use Prim.Native.Nat.{ℕ, zero, suc, _+_, _-_, _*_, _/_, _%_, _^_, _≤_, _<_}
-use native.Mathlib.Nat.{mod-lt, mod-one, mod-eq-of-lt, mul-assoc, mul-add-div-right, mul-add-mod-self-right, pow-succ'}
+use native.Mathlib.Nat.{mod-lt, mod-one, mod-eq-of-lt, mul-assoc, add-mul, zero-add, add-comm, suc-add, mul-add-div-right, mul-add-mod-self-right, pow-succ'}
 use native.Mathlib.Numerals.{one-add}
 use native.Mathlib.Decide.{decLt}
 use native.Mathlib.Omega.{arith}
-use lib.ListN.{length, getD, length-reverse, List·getD-append}
+use lib.ListN.{length, getD, take, drop, length-append, length-reverse, List·getD-append}
 use lib.Arith.{digits-lt}
-use lib.Pow.{pow-pos, pow-add, mod-pow-add, high}
+use lib.Pow.{pow-pos, pow-add, mod-pow-add, high, shr-shr}
 use lib.Seq.{getD-at}
-use Rattle.fields.specs.Bits.{Bits, digits, spelled}
+use Rattle.fields.specs.Bits.{digits, spelled}
+
+-- each element is a bit
+abbrev pub Bits : List ℕ → Type 0
+Bits bs = (i : ℕ) → getD bs i 0 < 2
 
 pub length-digits : (w v : ℕ) → length (digits w v) ≡ w
 unfolding digits
@@ -31,7 +35,7 @@ unfolding spelled
 spelled-lt [] h = omega arith
 spelled-lt (b ∷ bs) h = rw pow-succ' (digits-lt (h 0) (spelled-lt bs (bits-tail b bs h)))
 
--- what bits spell, of the lowest w bits of a number
+-- the lowest w bits of a number spell its remainder
 pub spelled-digits : (w v : ℕ) → spelled (digits w v) ≡ v % 2 ^ w
 unfolding digits spelled
 spelled-digits zero v = sym (mod-one v)
@@ -67,12 +71,49 @@ unfolding digits
 digits-at zero v k h = absurd (omega arith)
 digits-at (suc w) v k h = ap (λ (l : List ℕ). getD l k 0) (reverse-cons (v / 2 ^ w % 2) (digits w v)) ∙ go (digits-at w v k) (decLt k w)
   where
-    long : length (reverse (digits w v)) ≡ w
-    long = length-reverse (digits w v) ∙ length-digits w v
+    as-many : length (reverse (digits w v)) ≡ w
+    as-many = length-reverse (digits w v) ∙ length-digits w v
 
     go : (k < w → getD (reverse (digits w v)) k 0 ≡ v / 2 ^ k % 2) → Dec (k < w)
         → getD (reverse (digits w v) ++ (v / 2 ^ w % 2 ∷ [])) k 0 ≡ v / 2 ^ k % 2
-    go ih (yes l) = List·getD-append (reverse (digits w v)) (v / 2 ^ w % 2 ∷ []) 0 k (omega (arith, long)) ∙ ih l
+    go ih (yes l) = List·getD-append (reverse (digits w v)) (v / 2 ^ w % 2 ∷ []) 0 k (omega (arith, as-many)) ∙ ih l
     go ih (no n) =
         let e : w ≡ k = omega arith in
-        getD-at (reverse (digits w v)) (v / 2 ^ w % 2) [] 0 k (long ∙ e) ∙ ap (λ (j : ℕ). v / 2 ^ j % 2) e
+        getD-at (reverse (digits w v)) (v / 2 ^ w % 2) [] 0 k (as-many ∙ e) ∙ ap (λ (j : ℕ). v / 2 ^ j % 2) e
+
+-- bits behind others
+drop-digits : (k w v : ℕ) → drop k (digits (k + w) v) ≡ digits w v
+unfolding digits
+drop-digits zero w v = ap (λ (n : ℕ). digits n v) (zero-add w)
+drop-digits (suc k) w v = ap (λ (n : ℕ). drop (suc k) (digits n v)) (suc-add k w) ∙ drop-digits k w v
+
+-- bits in front of others
+take-digits : (w k v : ℕ) → take w (digits (w + k) v) ≡ digits w (v / 2 ^ k)
+unfolding digits
+take-digits zero k v = refl
+take-digits (suc w) k v =
+    let s : v / 2 ^ (w + k) ≡ v / 2 ^ k / 2 ^ w = ap (λ (n : ℕ). v / 2 ^ n) (add-comm w k) ∙ sym (shr-shr v k w) in
+    ap (λ (n : ℕ). take (suc w) (digits n v)) (suc-add w k) ∙ rw (s, take-digits w k v)
+
+-- n of the bits of a number, behind the first ones and in front of k others
+pub digits-part : (w v at n k : ℕ) → at + (n + k) ≡ w → take n (drop at (digits w v)) ≡ digits n (v / 2 ^ k)
+digits-part w v at n k e = rw (sym e, drop-digits at (n + k) v) (take-digits n k v)
+
+pub digits-mod : (w v : ℕ) → digits w (v % 2 ^ w) ≡ digits w v
+digits-mod w v =
+    ap (digits w) (sym (spelled-digits w v))
+    ∙ ap (λ (n : ℕ). digits n (spelled (digits w v))) (sym (length-digits w v))
+    ∙ digits-spelled (digits w v) (bits-digits w v)
+
+pub spelled-append : (bs cs : List ℕ) → spelled (bs ++ cs) ≡ spelled bs * 2 ^ length cs + spelled cs
+unfolding spelled
+spelled-append [] cs = omega arith
+spelled-append (b ∷ bs) cs =
+    let p : b * 2 ^ length (bs ++ cs) ≡ b * 2 ^ length bs * 2 ^ length cs = simp (length-append, pow-add, mul-assoc) in
+    omega (arith, p, spelled-append bs cs, add-mul (b * 2 ^ length bs) (spelled bs) (2 ^ length cs))
+
+-- the number that some of the bits spell, out of the one that all spell
+pub spelled-part : (bs : List ℕ) → Bits bs → (at n k : ℕ) → at + (n + k) ≡ length bs → spelled (take n (drop at bs)) ≡ spelled bs / 2 ^ k % 2 ^ n
+spelled-part bs h at n k e =
+    ap (λ (ds : List ℕ). spelled (take n (drop at ds))) (sym (digits-spelled bs h))
+    ∙ ap spelled (digits-part (length bs) (spelled bs) at n k e) ∙ spelled-digits n (spelled bs / 2 ^ k)

@@ -1,23 +1,23 @@
 -- Laws of the bits of octets and of the octets that bits make.
 use mathlib.Core.Path.{_≡_, refl, sym, ap, _∙_}
-use mathlib.Core.List.{List, [], _∷_, _++_, reverse, reverse-cons, reverse-reverse}
+use mathlib.Core.List.{List, [], _∷_, _++_, reverse, reverse-cons, reverse-reverse, append-assoc}
 use Prim.Native.Nat.{ℕ, zero, suc, _+_, _-_, _*_, _/_, _%_, _^_, _≤_, _<_}
 use native.Mathlib.Nat.{mod-lt, mod-eq-of-lt, zero-mod, div-eq-of-lt, zero-div, add-div-left, add-mod-left, lt-of-lt-of-le}
 use native.Mathlib.Numerals.{add-one}
 use native.Mathlib.Decide.{decLt}
 use native.Mathlib.Omega.{arith}
 use lib.ListN.{length, getD, take, drop, length-append, length-reverse, length-take, length-drop, take-append-drop, List·getD-append}
-use lib.Seq.{take-at, drop-at, getD-append-add, getD-drop, length-take-le}
+use lib.Seq.{take-at, drop-at, drop-drop, getD-append-add, getD-drop, length-take-le}
 use lib.Pow.{pow-mono}
-use Rattle.fields.specs.Bits.{Bits, digits, spelled, bitsOf, octetsOf}
-use Rattle.fields.proofs.Digits.{length-digits, bits-tail, spelled-lt, spelled-digits, digits-spelled, digits-at}
+use Rattle.fields.specs.Bits.{digits, spelled, bitsOf, octetsOf}
+use Rattle.fields.proofs.Digits.{Bits, length-digits, bits-digits, bits-tail, spelled-lt, spelled-digits, digits-spelled, digits-at}
 
 pub bits-append : (bs cs : List ℕ) → Bits bs → Bits cs → Bits (bs ++ cs)
 bits-append [] cs h g i = g i
 bits-append (b ∷ bs) cs h g zero = h 0
 bits-append (b ∷ bs) cs h g (suc i) = bits-append bs cs (bits-tail b bs h) g i
 
-pub bits-reverse : (bs : List ℕ) → Bits bs → Bits (reverse bs)
+bits-reverse : (bs : List ℕ) → Bits bs → Bits (reverse bs)
 bits-reverse [] h = λ i. omega arith
 bits-reverse (b ∷ bs) h = rw reverse-cons (bits-append (reverse bs) (b ∷ []) (bits-reverse bs (bits-tail b bs h)) one)
   where
@@ -25,23 +25,31 @@ bits-reverse (b ∷ bs) h = rw reverse-cons (bits-append (reverse bs) (b ∷ [])
     one zero = h 0
     one (suc i) = omega arith
 
-pub bits-take : (n : ℕ) (bs : List ℕ) → Bits bs → Bits (take n bs)
+bits-take : (n : ℕ) (bs : List ℕ) → Bits bs → Bits (take n bs)
 bits-take zero bs h i = omega arith
 bits-take (suc n) [] h i = omega arith
 bits-take (suc n) (b ∷ bs) h zero = h 0
 bits-take (suc n) (b ∷ bs) h (suc i) = bits-take n bs (bits-tail b bs h) i
 
-pub bits-drop : (n : ℕ) (bs : List ℕ) → Bits bs → Bits (drop n bs)
+bits-drop : (n : ℕ) (bs : List ℕ) → Bits bs → Bits (drop n bs)
 bits-drop n bs h i = rw getD-drop (h (n + i))
 
 -- eight bits stand for an octet
-length-octet : (x : ℕ) → length (reverse (digits 8 x)) ≡ 8
+pub length-octet : (x : ℕ) → length (reverse (digits 8 x)) ≡ 8
 length-octet x = length-reverse (digits 8 x) ∙ length-digits 8 x
+
+pub reversed-lt : (x : ℕ) → spelled (reverse (digits 8 x)) < 256
+reversed-lt x = rw (length-octet x) at (spelled-lt (reverse (digits 8 x)) (bits-reverse (digits 8 x) (bits-digits 8 x)))
 
 pub length-bits : (xs : List ℕ) → length (bitsOf xs) ≡ 8 * length xs
 unfolding bitsOf
 length-bits [] = refl
 length-bits (x ∷ xs) = rw length-append (omega (arith, length-octet x, length-bits xs))
+
+pub bits-of-append : (xs ys : List ℕ) → bitsOf (xs ++ ys) ≡ bitsOf xs ++ bitsOf ys
+unfolding bitsOf
+bits-of-append [] ys = refl
+bits-of-append (x ∷ xs) ys = rw (bits-of-append xs ys) (sym (append-assoc (reverse (digits 8 x)) (bitsOf xs) (bitsOf ys)))
 
 -- one bit, in its octet
 pub bit-is : (xs : List ℕ) (p : ℕ) → getD (bitsOf xs) p 0 ≡ getD xs (p / 8) 0 / 2 ^ (p % 8) % 2
@@ -92,14 +100,23 @@ length-octets zero bs = refl
 length-octets (suc n) bs = ap suc (length-octets n (drop 8 bs))
 
 -- eight bits make less than 256
-octet-small : (bs : List ℕ) (at : ℕ) → Bits bs → spelled (reverse (take 8 (drop at bs))) < 256
-octet-small bs at h =
-    let eight : List ℕ = take 8 (drop at bs) in
-    let l : length (reverse eight) ≤ 8 = omega (arith, length-reverse eight, length-take 8 (drop at bs)) in
-    lt-of-lt-of-le (spelled-lt (reverse eight) (bits-reverse eight (bits-take 8 (drop at bs) (bits-drop at bs h)))) (pow-mono l)
+octet-small : (bs : List ℕ) → Bits bs → spelled (reverse (take 8 bs)) < 256
+octet-small bs h =
+    let eight : List ℕ = take 8 bs in
+    let l : length (reverse eight) ≤ 8 = omega (arith, length-reverse eight, length-take 8 bs) in
+    lt-of-lt-of-le (spelled-lt (reverse eight) (bits-reverse eight (bits-take 8 bs h))) (pow-mono l)
 
 pub octet-lt : (n : ℕ) (bs : List ℕ) → Bits bs → (i : ℕ) → getD (octetsOf n bs) i 0 < 256
 unfolding octetsOf
 octet-lt zero bs h i = omega arith
-octet-lt (suc n) bs h zero = octet-small bs 0 h
+octet-lt (suc n) bs h zero = octet-small bs h
 octet-lt (suc n) bs h (suc i) = octet-lt n (drop 8 bs) (bits-drop 8 bs h) i
+
+-- one octet, of all that bits make
+pub octet-at : (n : ℕ) (bs : List ℕ) (i : ℕ) → i < n → getD (octetsOf n bs) i 0 ≡ spelled (reverse (take 8 (drop (8 * i) bs)))
+unfolding octetsOf
+octet-at zero bs i h = absurd (omega arith)
+octet-at (suc n) bs zero h = refl
+octet-at (suc n) bs (suc i) h =
+    let e : 8 + 8 * i ≡ 8 * suc i = omega arith in
+    octet-at n (drop 8 bs) i (omega arith) ∙ ap (λ (l : List ℕ). spelled (reverse (take 8 l))) (drop-drop (8 * i) 8 bs ∙ ap (λ (k : ℕ). drop k bs) e)

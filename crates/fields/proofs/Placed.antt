@@ -7,23 +7,18 @@ use native.Mathlib.Omega.{arith}
 use borrow.Author.Tests.{eq-eqb, ne-eqb}
 use lib.ListN.{length, getD, set, drop, length-set, length-append}
 use lib.Seq.{getD-set-same, getD-set-other, set-at, append-snoc}
-use Rattle.fields.specs.Bits.{Bits}
-use Rattle.fields.specs.Table.{placed, times, run}
-use Rattle.fields.proofs.Digits.{bits-tail}
+use Rattle.fields.specs.Table.{placed, run}
+use Rattle.fields.specs.RoundTrip.{times}
+use Rattle.fields.proofs.Digits.{Bits, bits-tail}
 
 -- how often a bit is named, place by place
-pub times-here : {p q : ℕ} (qs : List ℕ) → p ≡ q → times p (q ∷ qs) ≡ 1 + times p qs
+times-here : {p q : ℕ} (qs : List ℕ) → p ≡ q → times p (q ∷ qs) ≡ 1 + times p qs
 unfolding times
 times-here {p} {q} qs e = rw (eq-eqb p q e)
 
 pub times-there : {p q : ℕ} (qs : List ℕ) → (p ≡ q → ⊥) → times p (q ∷ qs) ≡ times p qs
 unfolding times
 times-there {p} {q} qs n = rw (ne-eqb p q n) (omega arith)
-
-pub times-append : (p : ℕ) (ps qs : List ℕ) → times p (ps ++ qs) ≡ times p ps + times p qs
-unfolding times
-times-append p [] qs = omega arith
-times-append p (x ∷ ps) qs = omega (arith, times-append p ps qs)
 
 -- the first place is p, or p is named as often as behind it
 data First (p q : ℕ) (qs : List ℕ) : Type 0 where

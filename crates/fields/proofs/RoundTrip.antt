@@ -6,34 +6,31 @@ use native.Mathlib.Nat.{mod-eq-of-lt, div-eq-of-lt, zero-mod, lt-of-lt-of-le}
 use native.Mathlib.Decide.{decLt}
 use native.Mathlib.Omega.{arith}
 use borrow.Author.Tests.{lt-ltb, le-ltb}
-use lib.ListN.{length, getD, replicate, getD-replicate, length-map, List·getD-eq-default, List·getD-map}
+use lib.ListN.{length, getD, replicate, length-map, List·getD-map}
 use lib.Pow.{pow-mono}
 use lib.Seq.{ext-getD}
-use Rattle.fields.specs.Bits.{Bits, spelled, bitsOf, octetsOf}
-use Rattle.fields.specs.Table.{Table, fieldOf, fieldsOf, fieldBits, placed, bodyOf, times, consecutive, total, EachOnce, LegalBody, Fitting, RoundTrip}
-use Rattle.fields.proofs.Digits.{spelled-lt}
+use Rattle.fields.specs.Bits.{spelled, bitsOf, octetsOf}
+use Rattle.fields.specs.Table.{Table, fieldOf, fieldsOf, fieldBits, placed, bodyOf, consecutive}
+use Rattle.fields.specs.RoundTrip.{times, total, EachOnce, LegalBody, Fitting, RoundTrip}
+use Rattle.fields.proofs.Digits.{Bits, spelled-lt}
 use Rattle.fields.proofs.Octets.{length-bits, bit-is, bits-bits, octets-bits, bits-octets, length-octets, octet-lt}
 use Rattle.fields.proofs.Placed.{length-placed, bits-placed, placed-other, placed-here, placed-same}
-use Rattle.fields.proofs.Tables.{length-fieldBits, bits-fieldBits, bits-map, fieldBits-spelled, spelled-fieldBits, consecutive-once}
+use Rattle.fields.proofs.Tables.{length-fieldBits, bits-fieldBits, bits-map, fieldBits-spelled, spelled-fieldBits, zeros-at, consecutive-once}
 
--- no bit
+-- a body's bits before any field is put there
 abbrev pub zeros : List ℕ
 zeros = replicate 56 0
 
-pub bits-zeros : Bits zeros
-bits-zeros i = go (decLt i 56)
-  where
-    go : Dec (i < 56) → getD zeros i 0 < 2
-    go (yes h) = rw (getD-replicate {A = ℕ} 56 i 0 0 h) (omega arith)
-    go (no h) = rw (List·getD-eq-default zeros 0 {n = i} (omega arith)) (omega arith)
+bits-zeros : Bits zeros
+bits-zeros i = rw (zeros-at 56 i) (omega arith)
 
 -- what is put into zeros is bits, 56 of them
 module _ (table : Table) (fields : List ℕ) {bits : List ℕ} (e : bits ≡ placed (flatten table) (fieldBits table fields) zeros) where
   pub packed-bits : Bits bits
   packed-bits = rw e (bits-placed (flatten table) (fieldBits table fields) zeros (bits-fieldBits table fields) bits-zeros)
 
-  packed-long : length bits ≡ 56
-  packed-long = ap length e ∙ length-placed (flatten table) (fieldBits table fields) zeros
+  packed-length : length bits ≡ 56
+  packed-length = ap length e ∙ length-placed (flatten table) (fieldBits table fields) zeros
 
 -- an octet whose two highest bits are 0
 low-six : (x : ℕ) → x < 256 → x / 64 % 2 ≡ 0 → x / 128 % 2 ≡ 0 → x ≤ 63
@@ -70,20 +67,20 @@ module _ (table : Table) (each : EachOnce table) where
     -- the bits of a packed body
     bits-body : bitsOf (bodyOf table fields) ≡ bits
     unfolding bodyOf bits
-    bits-body = bits-octets 7 bits (packed-bits table fields refl) (packed-long table fields refl)
+    bits-body = bits-octets 7 bits (packed-bits table fields refl) (packed-length table fields refl)
 
     -- those behind the 54th are 0
     free : (p : ℕ) → 54 ≤ p → p < 56 → getD (bodyOf table fields) (p / 8) 0 / 2 ^ (p % 8) % 2 ≡ 0
     unfolding bits
     free p h l =
         sym (bit-is (bodyOf table fields) p) ∙ ap (λ (bs : List ℕ). getD bs p 0) bits-body
-        ∙ placed-other p (flatten table) (fieldBits table fields) zeros (unnamed p h) ∙ getD-replicate 56 p 0 0 l
+        ∙ placed-other p (flatten table) (fieldBits table fields) zeros (unnamed p h) ∙ zeros-at 56 p
 
     -- a packed body is a legal body, whatever the fields
     packed-legal : LegalBody (bodyOf table fields)
     unfolding bodyOf bits
     packed-legal = record {
-      long = length-octets 7 bits;
+      seven = length-octets 7 bits;
       octets = octet-lt 7 bits (packed-bits table fields refl);
       end = low-six (getD (bodyOf table fields) 6 0) (octet-lt 7 bits (packed-bits table fields refl) 6) (free 54 (omega arith) (omega arith)) (free 55 (omega arith) (omega arith));
     }
@@ -93,8 +90,8 @@ module _ (table : Table) (each : EachOnce table) where
     unfolding fieldsOf fieldOf bits
     unpack-packed fit =
         ap (λ (bs : List ℕ). map (λ (ps : List ℕ). spelled (map (λ (p : ℕ). getD bs p 0) ps)) table) bits-body
-        ∙ (spelled-fieldBits (λ (p : ℕ). getD bits p 0) table fields (fit .long) (fit .small)
-        (placed-here (flatten table) (fieldBits table fields) zeros (length-fieldBits table fields (fit .long))
+        ∙ (spelled-fieldBits (λ (p : ℕ). getD bits p 0) table fields (fit .as-many) (fit .small)
+        (placed-here (flatten table) (fieldBits table fields) zeros (length-fieldBits table fields (fit .as-many))
         (λ p. at-most-once p) (λ p h. inside p h)))
 
   -- packing what was unpacked gives the body
@@ -102,7 +99,7 @@ module _ (table : Table) (each : EachOnce table) where
   unfolding bodyOf fieldsOf fieldOf
   pack-unpacked body legal =
       rw (fieldBits-spelled bit (bits-bits body) table, same)
-      (ap (λ (n : ℕ). octetsOf n (bitsOf body)) (sym (legal .long)) ∙ octets-bits body (legal .octets))
+      (ap (λ (n : ℕ). octetsOf n (bitsOf body)) (sym (legal .seven)) ∙ octets-bits body (legal .octets))
     where
       bit : ℕ → ℕ
       bit p = getD (bitsOf body) p 0
@@ -119,21 +116,21 @@ module _ (table : Table) (each : EachOnce table) where
       at p l (yes h) = placed-same bit (flatten table) zeros p l (omega (arith, named p h))
       at p l (no h) =
           placed-other p (flatten table) (map bit (flatten table)) zeros (unnamed p (omega arith))
-          ∙ getD-replicate 56 p 0 0 l ∙ sym (free-of p (omega arith) l)
+          ∙ zeros-at 56 p ∙ sym (free-of p (omega arith) l)
 
-      long : length (placed (flatten table) (map bit (flatten table)) zeros) ≡ 56
-      long = length-placed (flatten table) (map bit (flatten table)) zeros
+      as-many : length (placed (flatten table) (map bit (flatten table)) zeros) ≡ 56
+      as-many = length-placed (flatten table) (map bit (flatten table)) zeros
 
       same : placed (flatten table) (map bit (flatten table)) zeros ≡ bitsOf body
       same =
-          ext-getD 0 (placed (flatten table) (map bit (flatten table)) zeros) (bitsOf body) (omega (arith, long, length-bits body, legal .long))
-          (λ p h. at p (omega (arith, long)) (decLt p 54))
+          ext-getD 0 (placed (flatten table) (map bit (flatten table)) zeros) (bitsOf body) (omega (arith, as-many, length-bits body, legal .seven))
+          (λ p h. at p (omega (arith, as-many)) (decLt p 54))
 
 -- fields that were unpacked fit
 pub unpacked-fit : (table : Table) (body : List ℕ) → Fitting table (fieldsOf table body)
 unfolding fieldsOf fieldOf spelled
 unpacked-fit table body = record {
-  long = length-map table (fieldOf body);
+  as-many = length-map table (fieldOf body);
   small = λ i.
       let ps : List ℕ = getD table i [] in
       let bs : List ℕ = map (λ (p : ℕ). getD (bitsOf body) p 0) ps in

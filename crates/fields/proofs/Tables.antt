@@ -1,20 +1,23 @@
 -- Laws of a table's fields and their bits, and of tables of neighbouring bits.
 use mathlib.Core.Path.{_≡_, refl, sym, ap, _∙_}
 use mathlib.Core.Bool.{cond}
-use mathlib.Core.List.{List, [], _∷_, _++_, map, flatten, map-append}
+use mathlib.Core.List.{List, [], _∷_, _++_, map, flatten, map-append, append-assoc}
 use Prim.Native.Nat.{ℕ, zero, suc, _+_, _^_, _≤_, _<_}
-use native.Mathlib.Nat.{add-zero, zero-add, add-assoc, mod-eq-of-lt}
-use native.Mathlib.Decide.{decLt, ℕ-discrete}
+use native.Mathlib.Nat.{mod-eq-of-lt}
+use native.Mathlib.Decide.{decLt}
 use native.Mathlib.Omega.{arith}
-use borrow.Author.Tests.{lt-ltb, le-ltb}
-use lib.Dec.{ltb}
-use lib.ListN.{length, getD, take, drop, length-append, length-map, List·getD-map}
+use borrow.Author.Tests.{lt-ltb, le-ltb, eqb-true}
+use lib.Dec.{ltb, eqb}
+use lib.ListN.{length, getD, replicate, take, drop, length-append, length-map}
 use lib.Seq.{take-at, drop-at}
-use Rattle.fields.specs.Bits.{Bits, digits, spelled}
-use Rattle.fields.specs.Table.{Table, fieldOf, fieldsOf, fieldBits, run, consecutive, total, times, EachOnce}
-use Rattle.fields.proofs.Digits.{length-digits, bits-digits, spelled-digits, digits-spelled}
+use Rattle.fields.specs.Bits.{digits, spelled}
+use Rattle.fields.specs.Table.{Table, fieldBits, run, consecutive}
+use Rattle.fields.specs.RoundTrip.{total, times, EachOnce}
+use Rattle.fields.proofs.Digits.{Bits, length-digits, bits-digits, spelled-digits, digits-spelled}
 use Rattle.fields.proofs.Octets.{bits-append}
-use Rattle.fields.proofs.Placed.{times-here, times-there, times-append}
+use Rattle.fields.proofs.Computed.{every-below}
+use Rattle.fields.proofs.Placed.{times-there}
+use Rattle.fields.proofs.Runs.{length-run, run-append}
 
 pub length-fieldBits : (table : Table) (fields : List ℕ) → length fields ≡ length table → length (fieldBits table fields) ≡ length (flatten table)
 unfolding fieldBits flatten
@@ -67,10 +70,10 @@ module _ (bit : ℕ → ℕ) where
       let n : spelled (digits w v) ≡ v = spelled-digits w v ∙ mod-eq-of-lt (small 0) in
       rw (a, n, spelled-fieldBits table fields (omega arith) (λ i. small (suc i)) t)
 
-pub length-run : (at n : ℕ) → length (run at n) ≡ n
-unfolding run
-length-run at zero = refl
-length-run at (suc n) = ap suc (length-run (suc at) n)
+pub zeros-at : (n i : ℕ) → _≡_ {A = ℕ} (getD (replicate n 0) i 0) 0
+zeros-at zero i = refl
+zeros-at (suc n) zero = refl
+zeros-at (suc n) (suc i) = zeros-at n i
 
 pub length-consecutive : (at : ℕ) (ws : List ℕ) → length (consecutive at ws) ≡ length ws
 unfolding consecutive
@@ -78,94 +81,52 @@ length-consecutive at [] = refl
 length-consecutive at (w ∷ ws) = ap suc (length-consecutive (at + w) ws)
 
 -- all its bits are neighbours
-run-append : (at n m : ℕ) → run at n ++ run (at + n) m ≡ run at (n + m)
-unfolding run
-run-append at zero m = rw (add-zero at, zero-add m)
-run-append at (suc n) m =
-    let e : at + suc n ≡ suc at + n = omega arith in
-    let f : suc n + m ≡ suc (n + m) = omega arith in
-    rw (e, f, run-append (suc at) n m)
-
 pub flatten-consecutive : (at : ℕ) (ws : List ℕ) → flatten (consecutive at ws) ≡ run at (total ws)
 unfolding consecutive flatten total run
 flatten-consecutive at [] = refl
 flatten-consecutive at (w ∷ ws) = rw (flatten-consecutive (at + w) ws) (run-append at w (total ws))
 
--- one field of a table of neighbouring bits: it starts where those in front of it end
-pub consecutive-at : (at : ℕ) (ws : List ℕ) (i : ℕ) → i < length ws → getD (consecutive at ws) i [] ≡ run (at + total (take i ws)) (getD ws i 0)
-unfolding consecutive total
-consecutive-at at [] i h = absurd (omega arith)
-consecutive-at at (w ∷ ws) zero h = ap (λ (n : ℕ). run n w) (omega arith)
-consecutive-at at (w ∷ ws) (suc i) h =
-    consecutive-at (at + w) ws i (omega arith) ∙ ap (λ (n : ℕ). run n (getD ws i 0)) (omega arith)
+-- the number of bits of one field of a table of neighbouring bits
+pub width-consecutive : (at : ℕ) (ws : List ℕ) (i : ℕ) → length (getD (consecutive at ws) i []) ≡ getD ws i 0
+unfolding consecutive
+width-consecutive at [] i = refl
+width-consecutive at (w ∷ ws) zero = length-run at w
+width-consecutive at (w ∷ ws) (suc i) = width-consecutive (at + w) ws i
 
--- the fields in front of one, and it, are no more than all
-pub total-step : (ws : List ℕ) (i : ℕ) → i < length ws → total (take (suc i) ws) ≡ total (take i ws) + getD ws i 0
-unfolding total
-total-step [] i h = absurd (omega arith)
-total-step (w ∷ ws) zero h = omega arith
-total-step (w ∷ ws) (suc i) h = omega (arith, total-step ws i (omega arith))
-
-pub total-le : (ws : List ℕ) (i : ℕ) → total (take i ws) ≤ total ws
-unfolding total
-total-le ws zero = omega arith
-total-le [] (suc i) = omega arith
-total-le (w ∷ ws) (suc i) = omega (arith, total-le ws i)
-
--- 1 if a bit lies below another, else 0
-below : ℕ → ℕ → ℕ
-below p n = cond (ltb p n) 1 0
-
-below-lt : (p n : ℕ) → p < n → below p n ≡ 1
-unfolding below
-below-lt p n h = rw (lt-ltb p n h)
-
-below-ge : (p n : ℕ) → n ≤ p → below p n ≡ 0
-unfolding below
-below-ge p n h = rw (le-ltb p n h)
-
--- what is named once adds up: a run names the bits below its end that are not below its start
-run-times : (p at n : ℕ) → times p (run at n) + below p at ≡ below p (at + n)
+-- no run names a bit behind it, and the one of a body's 54 bits names each once
+run-behind : (p at n : ℕ) → at + n ≤ p → times p (run at n) ≡ 0
 unfolding run times
-run-times p at zero = omega (arith, ap (below p) (add-zero at))
-run-times p at (suc n) = go (ℕ-discrete p at) (decLt p at) (run-times p (suc at) n ∙ ap (below p) (omega arith))
-  where
-    go : Dec (p ≡ at) → Dec (p < at) → times p (run (suc at) n) + below p (suc at) ≡ below p (at + suc n)
-        → times p (at ∷ run (suc at) n) + below p at ≡ below p (at + suc n)
-    go (yes e) d ih = omega (arith, times-here (run (suc at) n) e, below-ge p at (omega arith), below-lt p (suc at) (omega arith))
-    go (no k) (yes l) ih = omega (arith, times-there (run (suc at) n) k, below-lt p at l, below-lt p (suc at) (omega arith))
-    go (no k) (no l) ih = omega (arith, times-there (run (suc at) n) k, below-ge p at (omega arith), below-ge p (suc at) (omega arith))
+run-behind p at zero h = refl
+run-behind p at (suc n) h = times-there (run (suc at) n) (λ e. omega arith) ∙ run-behind p (suc at) n (omega arith)
 
-consecutive-times : (p at : ℕ) (ws : List ℕ) → times p (flatten (consecutive at ws)) + below p at ≡ below p (at + total ws)
-unfolding consecutive flatten total times
-consecutive-times p at [] = omega (arith, ap (below p) (add-zero at))
-consecutive-times p at (w ∷ ws) =
-    omega (
-      arith,
-      times-append p (run at w) (flatten (consecutive (at + w) ws)),
-      run-times p at w,
-      consecutive-times p (at + w) ws,
-      ap (below p) (add-assoc at w (total ws)),
-    )
+run-once : (p : ℕ) → times p (run 0 54) ≡ cond (ltb p 54) 1 0
+unfolding run times
+run-once p = go (decLt p 54)
+  where
+    go : Dec (p < 54) → times p (run 0 54) ≡ cond (ltb p 54) 1 0
+    go (yes h) = rw (lt-ltb p 54 h) (eqb-true (times p (run 0 54)) 1 (every-below (λ (q : ℕ). eqb (times q (run 0 54)) 1) 54 refl p h))
+    go (no h) = rw (le-ltb p 54 (omega arith)) (run-behind p 0 54 (omega arith))
 
 -- neighbouring fields of 54 bits in all name each bit once
 pub consecutive-once : (ws : List ℕ) → total ws ≡ 54 → EachOnce (consecutive 0 ws)
-unfolding below
-consecutive-once ws e = record {
-  once = λ p. let q : 0 + total ws ≡ 54 = omega arith in
-      let h : times p (flatten (consecutive 0 ws)) + below p 0 ≡ below p (0 + total ws) = consecutive-times p 0 ws in
-      omega (arith, below-ge p 0 (omega arith), ap (below p) q);
-}
+consecutive-once ws e = record { once = λ p. rw (flatten-consecutive 0 ws, e) (run-once p) }
 
--- one field, of all that are unpacked
-pub field-is : (ws body : List ℕ) (i : ℕ) → i < length ws
-    → getD (fieldsOf (consecutive 0 ws) body) i 0 ≡ fieldOf body (run (total (take i ws)) (getD ws i 0))
-unfolding fieldsOf fieldOf spelled
-field-is ws body i l =
-    let s : 0 + total (take i ws) ≡ total (take i ws) = omega arith in
-    List·getD-map (fieldOf body) (consecutive 0 ws) i []
-    ∙ ap (λ (ps : List ℕ). fieldOf body ps) (consecutive-at 0 ws i l ∙ ap (λ (n : ℕ). run n (getD ws i 0)) s)
+-- all bits of a table are those of the fields in front of one, its own, and those behind
+pub flatten-split : (table : Table) (i : ℕ) → i < length table
+    → flatten table ≡ flatten (take i table) ++ (getD table i [] ++ flatten (drop (suc i) table))
+unfolding flatten
+flatten-split [] i h = absurd (omega arith)
+flatten-split (ps ∷ table) zero h = refl
+flatten-split (ps ∷ table) (suc i) h =
+    rw (flatten-split table i (omega arith)) (sym (append-assoc ps (flatten (take i table)) (getD table i [] ++ flatten (drop (suc i) table))))
 
-pub length-fields : (ws body : List ℕ) → length (fieldsOf (consecutive 0 ws) body) ≡ length ws
-unfolding fieldsOf
-length-fields ws body = length-map (consecutive 0 ws) (fieldOf body) ∙ length-consecutive 0 ws
+-- how many those in front are: no more than all
+pub front-step : (table : Table) (i : ℕ) → i < length table
+    → length (flatten (take (suc i) table)) ≡ length (flatten (take i table)) + length (getD table i [])
+unfolding flatten
+front-step [] i h = absurd (omega arith)
+front-step (ps ∷ table) zero h = simp length-append (omega arith)
+front-step (ps ∷ table) (suc i) h = simp length-append (omega (arith, front-step table i (omega arith)))
+
+pub front-le : (table : Table) (i : ℕ) → i < length table → length (flatten (take i table)) + length (getD table i []) ≤ length (flatten table)
+front-le table i h = rw (flatten-split table i h) (simp (length-append, length-append) (omega arith))

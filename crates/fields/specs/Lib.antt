@@ -2,5 +2,5 @@ pub mod Bits
 pub mod Table
 pub mod Modes
 pub mod Answers
+pub mod RoundTrip
 pub mod Examples
-pub mod Words

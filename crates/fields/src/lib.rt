@@ -1,32 +1,39 @@
-// The fields of a 600 bps frame's body, modes 1 to 3: one table of widths, one unpacker, one packer.
+// The fields of a 600 bps frame's body, modes 1 to 3: one table of widths, one unpacker, one packer (docs/FORMAT.md, "Fields").
 ghost use mathlib.Core.Path.{_≡_};
 ghost use mathlib.Core.Bool.{true};
-ghost use mathlib.Core.List.{List, _++_, map};
-ghost use Prim.Native.Nat.{ℕ, _+_, _*_, _/_, _%_, _^_, _≤_, _<_};
-ghost use lib.Dec.{ltb};
-ghost use lib.ListN.{length, getD, drop};
-ghost use Rattle.fields.specs.Modes.{isMode, widthsOf, countOf};
+ghost use mathlib.Core.List.{[], reverse};
+ghost use Prim.Native.Nat.{_/_, _%_, _^_, _≤_, _<_};
+ghost use lib.ListN.{length, getD};
+ghost use Rattle.fields.specs.Bits.{digits, spelled, bitsOf, octetsOf};
+ghost use Rattle.fields.specs.Table.{fieldsOf, fieldBits, bodyOf, firstLarge};
+ghost use Rattle.fields.specs.Modes.{isMode, tableOf, countOf};
 ghost use Rattle.fields.specs.Answers.{Unpacks, Packs};
-ghost use Rattle.fields.specs.Words.{wordOf, firstFour, lastThree, octets, turn, swap, unpackedInto, Spells, Gathers};
-use refusal::FOREIGN_BITS;
-use refusal::LARGE_FIELD;
+ghost use Rattle.fields.specs.RoundTrip.{Fitting};
+use refusal::FIELD_TOO_LARGE;
+use refusal::NUMBERS_TOO_SHORT;
+use refusal::OCTETS_TOO_SHORT;
+use refusal::RESERVED_BITS;
 use refusal::Refusal;
-use refusal::SHORT_BUFFER;
-use refusal::SHORT_LIST;
-use refusal::UNKNOWN_MODE;
 use refusal::WRONG_LENGTH;
+use refusal::WRONG_MODE;
 
 // The octets of a body.
-pub const BODY_OCTETS: usize = 7;
+const BODY_OCTETS: usize = 7;
 
-// The most that the last octet of a body may be: its two highest bits are no field's.
+// Their bits: the last two are no field's.
+const BODY_BITS: u64 = 56;
+
+// The most that the last octet of a body may be.
 const BODY_END: u8 = 63;
 
-// No mode has more fields.
-pub const MOST_FIELDS: usize = 11;
+// Modes are numbered from 1 on.
+const MODES: usize = 3;
 
-// The widths of the fields of modes 1 to 3 in bits, from B_01 on, a row for each mode. No field has width 0: it fills a row up.
-const WIDTHS: [[u8; MOST_FIELDS]; 3] = [
+// No mode has more fields.
+const MOST_FIELDS: usize = 11;
+
+// The widths of each mode's fields in bits, from B_01 on. No field has width 0: it fills a row up.
+const WIDTHS: [[u8; MOST_FIELDS]; MODES] = [
     // Voicing; LSF1,4; LSF1,3; LSF1,2; LSF1,1; LSF2,4; LSF2,3; LSF2,2; LSF2,1; GAIN2; GAIN1
     [5, 4, 4, 4, 6, 4, 4, 4, 6, 6, 7],
     // Voicing; Pitch; LSF1,3; LSF1,2; LSF1,1; LSF2,3; LSF2,2; LSF2,1; GAIN2; GAIN1
@@ -34,6 +41,9 @@ const WIDTHS: [[u8; MOST_FIELDS]; 3] = [
     // Voicing; Pitch; LSF1,3; LSF1,2; LSF1,1; LSF2,3; LSF2,2; LSF2,1; GAIN2; GAIN1
     [5, 8, 4, 5, 6, 4, 5, 6, 5, 6, 0],
 ];
+
+// The numbers of four bits, each with its bits in reverse order.
+const REVERSED_HALVES: [u8; 16] = [0, 8, 4, 12, 2, 10, 6, 14, 1, 9, 5, 13, 3, 11, 7, 15];
 
 // The number of fields that were written, or why none was.
 pub enum Unpacked {
@@ -47,87 +57,64 @@ pub enum Packed {
     Refused(Refusal),
 }
 
-// The modes are 1 to 3.
+// Whether there is such a mode.
 fn is_mode(mode: u8) -> bool
     ensures { λ r. ⌜ r ≡ isMode mode ⌝ }
 {
     if mode < 1 {
         return false;
     }
-    mode <= 3
+    mode as usize <= MODES
 }
 
-// The number of fields of a mode: mode 1 has one more than the others.
-fn count_of(mode: u8) -> usize
-    requires { ⌜ isMode mode ≡ true ⌝ }
-    ensures { λ r. ⌜ r ≡ countOf mode ⌝ }
-{
-    if mode == 1 {
-        return MOST_FIELDS;
-    }
-    MOST_FIELDS - 1
-}
-
-// The width of a mode's field.
+// The width of a mode's field, 0 behind its last one.
 fn width_of(mode: u8, i: usize) -> u64
-    requires { ⌜ (isMode mode ≡ true) × (i < countOf mode) ⌝ }
-    ensures { λ r. ⌜ r ≡ getD (widthsOf mode) i 0 ⌝ }
+    requires { ⌜ (isMode mode ≡ true) × (i < 11) ⌝ }
+    ensures { λ r. ⌜ r ≡ length (getD (tableOf mode) i []) ⌝ }
 {
     let m = (mode - 1) as usize;
     WIDTHS[m][i] as u64
 }
 
-fn wide(x: u8) -> u32
-    ensures { λ r. ⌜ (r ≡ x) × (r < 256) ⌝ }
+// The number of a mode's fields, which is that of its widths.
+fn count_of(mode: u8) -> usize
+    requires { ⌜ isMode mode ≡ true ⌝ }
+    ensures { λ r. ⌜ r ≡ countOf mode ⌝ }
 {
-    x as u32
+    let mut n = 0;
+    while n < MOST_FIELDS {
+        if width_of(mode, n) == 0 {
+            return n;
+        }
+        n += 1;
+    }
+    n
 }
 
-// The first four octets of a body as one number, the first the highest: as 32 bits of their own the compiler reads them at once.
-fn first_four(body: &[u8]) -> u32
+// An octet with its bits in reverse order: B_01 is the lowest bit of an octet and the highest of a field.
+fn reversed(octet: u8) -> u8
+    ensures { λ r. ⌜ r ≡ spelled (reverse (digits 8 octet)) ⌝ }
+{
+    let low = (octet % 16) as usize;
+    let high = (octet / 16) as usize;
+    REVERSED_HALVES[low] * 16 + REVERSED_HALVES[high]
+}
+
+// The bits of a body as one number, B_01 the highest.
+fn word_of_body(body: &[u8]) -> u64
     requires { ⌜ length (now body) ≡ 7 ⌝ }
-    ensures { λ r. ⌜ r ≡ firstFour (now (body .entry)) ⌝ }
+    ensures { λ r. ⌜ r ≡ spelled (bitsOf (now (body .entry))) ⌝ }
 {
-    wide(body[0]) * 16777216 + wide(body[1]) * 65536 + wide(body[2]) * 256 + wide(body[3])
+    let mut word: u64 = 0;
+    let mut i = 0;
+    while i < BODY_OCTETS {
+        word = word * 256 + reversed(body[i]) as u64;
+        i += 1;
+    }
+    word
 }
 
-// The last three likewise.
-fn last_three(body: &[u8]) -> u32
-    requires { ⌜ length (now body) ≡ 7 ⌝ }
-    ensures { λ r. ⌜ r ≡ lastThree (now (body .entry)) ⌝ }
-{
-    wide(body[4]) * 65536 + wide(body[5]) * 256 + wide(body[6])
-}
-
-// The octets of a body as one number, the first the highest.
-fn word_of(body: &[u8]) -> u64
-    requires { ⌜ length (now body) ≡ 7 ⌝ }
-    ensures { λ r. ⌜ r ≡ wordOf (now (body .entry)) ⌝ }
-{
-    let high = first_four(body);
-    let low = last_three(body);
-    high as u64 * 16777216 + low as u64
-}
-
-// Swaps neighbouring groups of k bits: those of the first mask go down, those of the second up.
-fn swapped(word: u64, down: u64, up: u64, k: u64) -> u64
-    requires { ⌜ (k ≤ 4) × (down < 2 ^ 56) × (up < 2 ^ 56) ⌝ }
-    ensures { λ r. ⌜ r ≡ swap down up k word ⌝ }
-{
-    ((word & down) >> k) + ((word & up) << k)
-}
-
-// The word with the bits of each octet in reverse order: bit 0 of an octet, B_01, is the highest bit of a field.
-fn turned(word: u64) -> u64
-    requires { ⌜ word < 2 ^ 56 ⌝ }
-    ensures { λ r. ⌜ r ≡ wordOf (map turn (octets 7 word)) ⌝ }
-{
-    let ones = swapped(word, 0xaaaaaaaaaaaaaa, 0x55555555555555, 1);
-    let twos = swapped(ones, 0xcccccccccccccc, 0x33333333333333, 2);
-    swapped(twos, 0xf0f0f0f0f0f0f0, 0x0f0f0f0f0f0f0f, 4)
-}
-
-// One field of a word: so many bits from one on up.
+// The number that some neighbouring bits of a word make; `from` is the lowest of them.
 fn field_at(word: u64, from: u64, width: u64) -> u16
     requires { ⌜ (from < 64) × (width ≤ 8) ⌝ }
     ensures { λ r. ⌜ r ≡ word / 2 ^ from % 2 ^ width ⌝ }
@@ -135,36 +122,20 @@ fn field_at(word: u64, from: u64, width: u64) -> u16
     ((word >> from) % (1 << width)) as u16
 }
 
-// Fills the first places with the fields of a word.
-fn take_fields(mode: u8, word: u64, fields: &mut [u16])
-    requires { ⌜ (isMode mode ≡ true) × (countOf mode ≤ length (now fields)) ⌝ }
-    ensures { λ _. ⌜ ((body : List ℕ) → Spells body word → now (fields .exit) ≡ unpackedInto mode body (now (fields .entry))) ⌝ }
+// Takes a mode's fields out of a body.
+fn take_fields(mode: u8, body: &[u8], fields: &mut [u16])
+    requires { ⌜ (isMode mode ≡ true) × (length (now body) ≡ 7) × (length (now fields) ≡ countOf mode) ⌝ }
+    ensures { λ _. ⌜ now (fields .exit) ≡ fieldsOf (tableOf mode) (now (body .entry)) ⌝ }
 {
-    let count = count_of(mode);
-    let mut left: u64 = 56;
+    let word = word_of_body(body);
+    let mut left = BODY_BITS;
     let mut i = 0;
-    while i < count {
+    while i < fields.len() {
         let width = width_of(mode, i);
         left -= width;
         fields[i] = field_at(word, left, width);
         i += 1;
     }
-}
-
-// The same, with a call for each mode, so that its widths are constants to the compiler.
-fn take(mode: u8, word: u64, fields: &mut [u16])
-    requires { ⌜ (isMode mode ≡ true) × (countOf mode ≤ length (now fields)) ⌝ }
-    ensures { λ _. ⌜ ((body : List ℕ) → Spells body word → now (fields .exit) ≡ unpackedInto mode body (now (fields .entry))) ⌝ }
-{
-    if mode == 1 {
-        take_fields(1, word, fields);
-        return;
-    }
-    if mode == 2 {
-        take_fields(2, word, fields);
-        return;
-    }
-    take_fields(3, word, fields);
 }
 
 // Unpacks the fields of a body of seven octets, in the order of the mode's widths.
@@ -173,7 +144,7 @@ pub fn unpack(mode: u8, body: &[u8], fields: &mut [u16]) -> Unpacked
 {
     if !is_mode(mode) {
         return Unpacked::Refused(Refusal {
-            number: UNKNOWN_MODE,
+            number: WRONG_MODE,
             place: 0,
         });
     }
@@ -185,129 +156,103 @@ pub fn unpack(mode: u8, body: &[u8], fields: &mut [u16]) -> Unpacked
     }
     if BODY_END < body[6] {
         return Unpacked::Refused(Refusal {
-            number: FOREIGN_BITS,
+            number: RESERVED_BITS,
             place: 6,
         });
     }
     let count = count_of(mode);
     if fields.len() < count {
         return Unpacked::Refused(Refusal {
-            number: SHORT_LIST,
+            number: NUMBERS_TOO_SHORT,
             place: count,
         });
     }
-    take(mode, turned(word_of(body)), fields);
+    take_fields(mode, body, &mut fields[..count]);
     Unpacked::Fields(count)
 }
 
-// What gathering fields finds: number and place of a refusal, 0 if there is none; then the word has the bits of the fields.
-struct Gathered {
-    number: u8,
-    place: usize,
-    word: u64,
-}
-
-// A field has no bit above its width.
-fn fits(value: u16, width: u64) -> bool
-    requires { ⌜ width < 16 ⌝ }
-    ensures { λ r. ⌜ r ≡ ltb value (2 ^ width) ⌝ }
+// The index of the first field that is too large for its width; the number of fields where none is.
+fn first_large(mode: u8, fields: &[u16]) -> usize
+    requires { ⌜ (isMode mode ≡ true) × (length (now fields) ≡ countOf mode) ⌝ }
+    ensures { λ r. ⌜ r ≡ firstLarge (tableOf mode) (now (fields .entry)) ⌝ }
 {
-    value >> width == 0
-}
-
-// A word with the bits of one field more.
-fn with_field(word: u64, width: u64, value: u16) -> u64
-    requires { ⌜ (word < 2 ^ 54) × (width ≤ 8) ⌝ }
-    ensures { λ r. ⌜ r ≡ word * 2 ^ width + value ⌝ }
-{
-    (word << width) + value as u64
-}
-
-// Gathers the bits of a mode's fields.
-fn gather_fields(mode: u8, fields: &[u16]) -> Gathered
-    requires { ⌜ isMode mode ≡ true ⌝ }
-    ensures { λ r. ⌜ Gathers mode (now (fields .entry)) (r .number) (r .place) (r .word) ⌝ }
-{
-    let count = count_of(mode);
-    if fields.len() != count {
-        return Gathered {
-            number: WRONG_LENGTH,
-            place: count,
-            word: 0,
-        };
-    }
-    let mut word: u64 = 0;
     let mut i = 0;
-    while i < count {
-        let width = width_of(mode, i);
-        if !fits(fields[i], width) {
-            return Gathered {
-                number: LARGE_FIELD,
-                place: i,
-                word: 0,
-            };
+    while i < fields.len() {
+        let above = fields[i] >> width_of(mode, i);
+        if above != 0 {
+            return i;
         }
-        word = with_field(word, width, fields[i]);
         i += 1;
     }
-    Gathered {
-        number: 0,
-        place: 0,
-        word,
-    }
+    i
 }
 
-// The same, with a call for each mode, so that its widths are constants to the compiler.
-fn gather(mode: u8, fields: &[u16]) -> Gathered
-    ensures { λ r. ⌜ Gathers mode (now (fields .entry)) (r .number) (r .place) (r .word) ⌝ }
+// The bits of fields that fit, one field behind another, as one number, the first bit the highest.
+fn word_of_fields(mode: u8, fields: &[u16]) -> u64
+    requires { ⌜ (isMode mode ≡ true) × Fitting (tableOf mode) (now fields) ⌝ }
+    ensures { λ r. ⌜ r ≡ spelled (fieldBits (tableOf mode) (now (fields .entry))) ⌝ }
 {
-    if mode == 1 {
-        return gather_fields(1, fields);
+    let mut word: u64 = 0;
+    let mut i = 0;
+    while i < fields.len() {
+        word = (word << width_of(mode, i)) + fields[i] as u64;
+        i += 1;
     }
-    if mode == 2 {
-        return gather_fields(2, fields);
-    }
-    if mode == 3 {
-        return gather_fields(3, fields);
-    }
-    Gathered {
-        number: UNKNOWN_MODE,
-        place: 0,
-        word: 0,
-    }
+    word
 }
 
-// Puts the seven octets of a word, the highest first. The last is put first: so the compiler stores the lowest four at once.
+// Puts the octets that the 56 bits of a word make, B_01 the highest.
 fn put_octets(word: u64, out: &mut [u8])
-    requires { ⌜ 7 ≤ length (now out) ⌝ }
-    ensures { λ _. ⌜ now (out .exit) ≡ octets 7 word ++ drop 7 (now (out .entry)) ⌝ }
+    requires { ⌜ length (now out) ≡ 7 ⌝ }
+    ensures { λ _. ⌜ now (out .exit) ≡ octetsOf 7 (digits 56 word) ⌝ }
 {
-    let mut from: u64 = 0;
-    let mut i = BODY_OCTETS;
-    while 0 < i {
-        i -= 1;
-        out[i] = ((word >> from) % 256) as u8;
-        from += 8;
+    let mut left = BODY_BITS;
+    let mut i = 0;
+    while i < BODY_OCTETS {
+        left -= 8;
+        out[i] = reversed(((word >> left) % 256) as u8);
+        i += 1;
     }
+}
+
+// Puts the body of fields that fit: their 54 bits, and two that are 0.
+fn put_fields(mode: u8, fields: &[u16], out: &mut [u8])
+    requires { ⌜ (isMode mode ≡ true) × Fitting (tableOf mode) (now fields) × (length (now out) ≡ 7) ⌝ }
+    ensures { λ _. ⌜ now (out .exit) ≡ bodyOf (tableOf mode) (now (fields .entry)) ⌝ }
+{
+    put_octets(word_of_fields(mode, fields) * 4, out);
 }
 
 // Packs a mode's fields, in the order of its widths, into a body of seven octets.
 pub fn pack(mode: u8, fields: &[u16], out: &mut [u8]) -> Packed
     ensures { λ r. ⌜ Packs mode (now (fields .entry)) (now (out .entry)) (now (out .exit)) r ⌝ }
 {
-    let gathered = gather(mode, fields);
-    if gathered.number != 0 {
+    if !is_mode(mode) {
         return Packed::Refused(Refusal {
-            number: gathered.number,
-            place: gathered.place,
+            number: WRONG_MODE,
+            place: 0,
+        });
+    }
+    let count = count_of(mode);
+    if fields.len() != count {
+        return Packed::Refused(Refusal {
+            number: WRONG_LENGTH,
+            place: count,
+        });
+    }
+    let large = first_large(mode, fields);
+    if large < count {
+        return Packed::Refused(Refusal {
+            number: FIELD_TOO_LARGE,
+            place: large,
         });
     }
     if out.len() < BODY_OCTETS {
         return Packed::Refused(Refusal {
-            number: SHORT_BUFFER,
+            number: OCTETS_TOO_SHORT,
             place: BODY_OCTETS,
         });
     }
-    put_octets(turned(gathered.word << 2), out);
+    put_fields(mode, fields, &mut out[..BODY_OCTETS]);
     Packed::Octets(BODY_OCTETS)
 }

@@ -1,4 +1,4 @@
--- Items: what the text of an item starts with, and what a text that starts so is.
+-- Items as text: what a text that starts with an item starts with, and the item that a text starts with.
 use mathlib.Core.Path.{_≡_, refl, sym, ap, _∙_, subst}
 use mathlib.Core.Bool.{true, false}
 use mathlib.Core.List.{List, [], _∷_, _++_, map, append-assoc, append-nil}
@@ -6,8 +6,9 @@ use Prim.Native.Nat.{ℕ, _+_}
 use native.Mathlib.Omega.{arith}
 use lib.ListN.{length, take, drop, take-append-drop, length-append}
 use lib.Seq.{drop-at, drop-drop, append-snoc}
-use Rattle.fmtp.specs.Settings.{IsTcmax}
-use Rattle.fmtp.specs.Text.{lower, bitrateName, tcmaxName, equals, decimal, Item, Bitrate, Tcmax}
+use Rattle.fmtp.specs.Settings.{isTcmax}
+use Rattle.fmtp.specs.Text.{lower, bitrateName, tcmaxName, equals, decimal}
+use Rattle.fmtp.specs.Means.{Spelled, Bitrate, Tcmax}
 use Rattle.fmtp.specs.Steps.{startsWith}
 use Rattle.fmtp.proofs.Words.{starts-exact, starts-spelled, starts-both, map-append, starts-folded, starts-other, spelled-length}
 
@@ -17,7 +18,7 @@ equals-folds : map lower (equals ∷ []) ≡ equals ∷ []
 unfolding lower
 equals-folds = refl
 
-module _ {name value t : List ℕ} (i : Item name value t) where
+module _ {name value t : List ℕ} (i : Spelled name value t) where
   head : List ℕ
   head = i .spelling ++ (equals ∷ [])
 
@@ -53,7 +54,7 @@ bitrate-other i u = item-other (i .item) 116 (drop 1 (tcmaxName ++ (equals ∷ [
 
 pub record Started (name value rest t : List ℕ) : Type 0 where
   pub start : List ℕ
-  pub item : Item name value start
+  pub item : Spelled name value start
   pub text : t ≡ start ++ rest
 
 pub started : (name value rest t : List ℕ) → startsWith (name ++ (equals ∷ [])) t ≡ true → drop (length (name ++ (equals ∷ []))) t ≡ value ++ rest → Started name value rest t
@@ -71,7 +72,7 @@ started name value rest t s e =
     }
 
 -- a tcmax item that is the whole text
-pub limit-item : (n : ℕ) (t : List ℕ) → startsWith (tcmaxName ++ (equals ∷ [])) t ≡ true → IsTcmax n → drop 6 t ≡ decimal n → Tcmax n t
-limit-item n t s i e =
+pub tcmax-item : (n : ℕ) (t : List ℕ) → startsWith (tcmaxName ++ (equals ∷ [])) t ≡ true → isTcmax n ≡ true → drop 6 t ≡ decimal n → Tcmax n t
+tcmax-item n t s i e =
     let h = started tcmaxName (decimal n) [] t s (e ∙ sym (append-nil (decimal n))) in
     subst (Tcmax n) (sym (h .text ∙ append-nil (h .start))) (record { number = i; item = h .item })

@@ -1,321 +1,185 @@
--- Rates as text: each rate's text, what stands at a text's start, and lists of rates.
+-- Rates as text: the rate that a text starts with, further rates behind commas, and lists of rates.
 use mathlib.Core.Path.{_≡_, refl, sym, ap, _∙_}
-use mathlib.Core.Logic.{_⊎_, inl, inr}
-use mathlib.Core.Bool.{Bool, true, false, cond, not}
+use mathlib.Core.Bool.{Bool, true, false, cond, or-true}
 use mathlib.Core.List.{List, [], _∷_, _++_, append-assoc}
-use Prim.Native.Nat.{ℕ, _+_, _≤_, _<_}
+use Prim.Native.Nat.{ℕ, _+_, _≤_}
 use native.Mathlib.Omega.{arith}
 use native.Mathlib.Decide.{ℕ-discrete}
-use native.Mathlib.Numerals.{add-one}
-use lib.ListN.{length, getD, drop}
-use lib.Seq.{drop-cons, drop-length, drop-at}
-use lib.Dec.{eqb}
-use borrow.Author.Tests.{eq-eqb, ne-eqb, eqb-true, eqb-false, not-true}
-use Rattle.fmtp.specs.Settings.{IsRate, bps2400, bps1200, bps600, IsRates, one, two, three}
-use Rattle.fmtp.specs.Text.{lower, comma, text2400, text1200, text600, rateText, moreText, ratesText}
-use Rattle.fmtp.specs.Steps.{IsPlace, startsWith, rateAt, moreAt, thirdAt, differTest, limitBehind, settle, fromRates}
-use Rattle.fmtp.proofs.Flags.{second-true, either-true}
-use Rattle.fmtp.proofs.SettingsLaws.{rate-pos, place-rate}
-use Rattle.fmtp.proofs.Words.{fold-only, starts-exact, drop-on, split-fits}
-
--- ---- the texts
-
-pub text-2400 : (r : ℕ) → r ≡ 2400 → rateText r ≡ text2400
-unfolding rateText
-text-2400 r e = simp (eq-eqb r 2400 e)
-
-pub text-1200 : (r : ℕ) → r ≡ 1200 → rateText r ≡ text1200
-unfolding rateText
-text-1200 r e = rw e
-
-pub text-600 : (r : ℕ) → r ≡ 600 → rateText r ≡ text600
-unfolding rateText
-text-600 r e = rw e
-
-pub text-none : (r : ℕ) → (r ≡ 2400 → ⊥) → (r ≡ 1200 → ⊥) → (r ≡ 600 → ⊥) → rateText r ≡ []
-unfolding rateText
-text-none r a b c = simp (ne-eqb r 2400 a, ne-eqb r 1200 b, ne-eqb r 600 c)
-
-pub text-most : (r : ℕ) → length (rateText r) ≤ 4
-text-most r = go (ℕ-discrete r 2400) (ℕ-discrete r 1200) (ℕ-discrete r 600)
-  where
-    go : Dec (r ≡ 2400) → Dec (r ≡ 1200) → Dec (r ≡ 600) → length (rateText r) ≤ 4
-    go (yes e) y z = omega (arith, ap length (text-2400 r e))
-    go (no x) (yes e) z = omega (arith, ap length (text-1200 r e))
-    go (no x) (no y) (yes e) = omega (arith, ap length (text-600 r e))
-    go (no x) (no y) (no z) = omega (arith, ap length (text-none r x y z))
-
-pub more-none : (r : ℕ) → r ≡ 0 → moreText r ≡ []
-unfolding moreText
-more-none r e = simp (eq-eqb r 0 e)
-
-pub more-some : (r : ℕ) → (r ≡ 0 → ⊥) → moreText r ≡ comma ∷ rateText r
-unfolding moreText
-more-some r e = simp (ne-eqb r 0 e)
-
-pub more-rate : {r : ℕ} → IsRate r → moreText r ≡ comma ∷ rateText r
-more-rate {r} i = more-some r (λ e. omega (arith, rate-pos i))
-
--- the lengths of a rate's text behind a comma
-pub more-600 : (r : ℕ) → r ≡ 600 → 4 ≡ length (moreText r)
-unfolding moreText rateText
-more-600 r e = rw e
-
-pub more-others : {r : ℕ} → IsPlace r → (r ≡ 0 → ⊥) → (r ≡ 600 → ⊥) → 5 ≡ length (moreText r)
-unfolding moreText rateText
-more-others i n x = go (place-rate i n) x
-  where
-    go : {r : ℕ} → IsRate r → (r ≡ 600 → ⊥) → 5 ≡ length (moreText r)
-    go bps2400 x = refl
-    go bps1200 x = refl
-    go bps600 x = absurd (x refl)
-
-pub more-most : (r : ℕ) → length (moreText r) ≤ 5
-more-most r = go (ℕ-discrete r 0)
-  where
-    go : Dec (r ≡ 0) → length (moreText r) ≤ 5
-    go (yes e) = omega (arith, ap length (more-none r e))
-    go (no e) = omega (arith, ap length (more-some r e), text-most r)
+use lib.ListN.{length, drop}
+use lib.Seq.{drop-drop, drop-at}
+use borrow.Author.Tests.{eq-eqb, ne-eqb}
+use Rattle.fmtp.specs.Settings.{isIn, rates, isRate, areRates}
+use Rattle.fmtp.specs.Text.{lower, comma, digits, decimal, furtherText, ratesText}
+use Rattle.fmtp.specs.Steps.{startsWith, oneAt, rateAt, furtherAt, tcmaxBehind, settle, fromRates, wrongText}
+use Rattle.fmtp.proofs.SettingsLaws.{Rate, bps2400, bps1200, bps600, rate-cases, rate-pos, Rates, one, two, three, rates-cases}
+use Rattle.fmtp.proofs.Words.{starts-exact, split-fits}
+use Rattle.fmtp.proofs.Decimals.{decimal-signs, further-none, further-some}
 
 -- ---- the rate at a text's start
 
-rate-read : {r : ℕ} → IsRate r → (rest : List ℕ) → rateAt (rateText r ++ rest) ≡ r
-unfolding rateAt rateText lower
-rate-read bps2400 rest = refl
-rate-read bps1200 rest = refl
-rate-read bps600 rest = refl
-
--- a text starts with a rate's text
-pub record Headed (t : List ℕ) (r : ℕ) : Type 0 where
-  pub rate : IsRate r
-  pub text : t ≡ rateText r ++ drop (length (rateText r)) t
-
-rate-found : (t : List ℕ) (r : ℕ) → rateAt t ≡ r → (r ≡ 0 → ⊥) → Headed t r
-unfolding rateAt rateText
-rate-found t r e n = go (startsWith text2400 t) refl (startsWith text1200 t) refl (startsWith text600 t) refl
+pub rate-read : (r : ℕ) → isRate r ≡ true → (t : List ℕ) → rateAt (decimal r ++ t) ≡ r
+unfolding rateAt decimal digits lower
+rate-read r h t = go (rate-cases r h)
   where
-    go : (x : Bool) → startsWith text2400 t ≡ x → (y : Bool) → startsWith text1200 t ≡ y → (z : Bool) → startsWith text600 t ≡ z → Headed t r
-    go true ex y ey z ez = let f : 2400 ≡ r = simp ex at e in rw (← f) (record { rate = bps2400; text = starts-exact text2400 t refl ex })
-    go false ex true ey z ez = let f : 1200 ≡ r = simp (ex, ey) at e in rw (← f) (record { rate = bps1200; text = starts-exact text1200 t refl ey })
-    go false ex false ey true ez = let f : 600 ≡ r = simp (ex, ey, ez) at e in rw (← f) (record { rate = bps600; text = starts-exact text600 t refl ez })
-    go false ex false ey false ez = let f : 0 ≡ r = simp (ex, ey, ez) at e in absurd (n (sym f))
+    go : {r : ℕ} → Rate r → rateAt (decimal r ++ t) ≡ r
+    go bps2400 = refl
+    go bps1200 = refl
+    go bps600 = refl
 
--- a text is the rate that it starts with, or nothing, and what stands behind that
-rate-split : (t : List ℕ) → t ≡ rateText (rateAt t) ++ drop (length (rateText (rateAt t))) t
-rate-split t = go (ℕ-discrete (rateAt t) 0)
+-- a text starts with the text of one of the numbers
+record Headed (ns t : List ℕ) (r : ℕ) : Type 0 where
+  among : isIn r ns ≡ true
+  text : t ≡ decimal r ++ drop (length (decimal r)) t
+
+one-found : (ns t : List ℕ) (r : ℕ) → oneAt ns t ≡ r → (r ≡ 0 → ⊥) → Headed ns t r
+one-found [] t r e n = absurd (n (sym e))
+one-found (m ∷ ns) t r e n = go (startsWith (decimal m) t) refl (one-found ns t r)
   where
-    go : Dec (rateAt t ≡ 0) → t ≡ rateText (rateAt t) ++ drop (length (rateText (rateAt t))) t
-    go (yes e) = rw (text-none (rateAt t) (λ f. omega arith) (λ f. omega arith) (λ f. omega arith))
-    go (no e) = rate-found t (rateAt t) refl e .text
+    go : (x : Bool) → startsWith (decimal m) t ≡ x → (oneAt ns t ≡ r → (r ≡ 0 → ⊥) → Headed ns t r) → Headed (m ∷ ns) t r
+    go true x f =
+        let k : m ≡ r = simp x at e in
+        rw (← k) (record { among = simp (eq-eqb m m refl); text = starts-exact (decimal m) t (decimal-signs m) x })
+    go false x f =
+        let h = f (simp x at e) n in
+        record { among = simp (h .among, or-true); text = h .text }
+
+rate-found : (t : List ℕ) → (rateAt t ≡ 0 → ⊥) → Headed rates t (rateAt t)
+unfolding rateAt
+rate-found t n = one-found rates t (rateAt t) refl n
+
+pub rate-split : (t : List ℕ) → (rateAt t ≡ 0 → ⊥) → t ≡ decimal (rateAt t) ++ drop (length (decimal (rateAt t))) t
+rate-split t n = rate-found t n .text
 
 -- ---- a further rate
 
--- a text that starts with no comma
-pub more-other : (t : List ℕ) → startsWith (comma ∷ []) t ≡ false → moreAt t ≡ 0
-unfolding moreAt
-more-other t e = simp e
+pub further-other : (t : List ℕ) → startsWith (comma ∷ []) t ≡ false → furtherAt t ≡ 0
+unfolding furtherAt
+further-other t e = simp e
 
-more-comma : (t : List ℕ) → moreAt (comma ∷ t) ≡ rateAt t
-unfolding moreAt lower
-more-comma t = refl
+further-comma : (t : List ℕ) → furtherAt (comma ∷ t) ≡ rateAt t
+unfolding furtherAt lower
+further-comma t = refl
 
-more-read : {r : ℕ} → IsRate r → (rest : List ℕ) → moreAt (moreText r ++ rest) ≡ r
-more-read i rest = rw (more-rate i) (more-comma _ ∙ rate-read i rest)
+further-read : (r : ℕ) → isRate r ≡ true → (t : List ℕ) → furtherAt (furtherText r ++ t) ≡ r
+further-read r h t = rw (further-some r (λ e. omega (arith, rate-pos r h))) (further-comma (decimal r ++ t) ∙ rate-read r h t)
 
-comma-split : (t : List ℕ) → (comma ∷ t) ≡ moreText (rateAt t) ++ drop (length (moreText (rateAt t))) (comma ∷ t)
-comma-split t = go (ℕ-discrete (rateAt t) 0)
+-- a text is the further rate that it starts with, or nothing, and what stands behind that
+pub further-split : (t : List ℕ) → t ≡ furtherText (furtherAt t) ++ drop (length (furtherText (furtherAt t))) t
+further-split t = go (startsWith (comma ∷ []) t) refl
   where
-    go : Dec (rateAt t ≡ 0) → (comma ∷ t) ≡ moreText (rateAt t) ++ drop (length (moreText (rateAt t))) (comma ∷ t)
-    go (yes e) = rw (more-none (rateAt t) e)
-    go (no e) = rw (more-some (rateAt t) e) (ap (λ (l : List ℕ). comma ∷ l) (rate-split t))
+    behind : (u : List ℕ) → Dec (rateAt u ≡ 0) → (comma ∷ u) ≡ furtherText (rateAt u) ++ drop (length (furtherText (rateAt u))) (comma ∷ u)
+    behind u (yes e) = rw (further-none (rateAt u) e)
+    behind u (no e) = rw (further-some (rateAt u) e) (ap (λ (l : List ℕ). comma ∷ l) (rate-split u e))
 
-more-split : (t : List ℕ) → t ≡ moreText (moreAt t) ++ drop (length (moreText (moreAt t))) t
-more-split t = go (startsWith (comma ∷ []) t) refl
-  where
-    go : (x : Bool) → startsWith (comma ∷ []) t ≡ x → t ≡ moreText (moreAt t) ++ drop (length (moreText (moreAt t))) t
-    go false e = rw (more-none (moreAt t) (more-other t e))
+    go : (x : Bool) → startsWith (comma ∷ []) t ≡ x → t ≡ furtherText (furtherAt t) ++ drop (length (furtherText (furtherAt t))) t
+    go false e = rw (further-none (furtherAt t) (further-other t e))
     go true e =
         let f : t ≡ comma ∷ drop 1 t = starts-exact (comma ∷ []) t refl e in
-        rw f (rw (more-comma (drop 1 t)) (comma-split (drop 1 t)))
-
-pub third-none : (b : ℕ) (t : List ℕ) → b ≡ 0 → 0 ≡ thirdAt b t
-unfolding thirdAt
-third-none b t e = simp (eq-eqb b 0 e)
-
-pub third-more : (b : ℕ) (t : List ℕ) → (b ≡ 0 → ⊥) → moreAt t ≡ thirdAt b t
-unfolding thirdAt
-third-more b t e = simp (ne-eqb b 0 e)
-
-third-split : (b : ℕ) (t : List ℕ) → t ≡ moreText (thirdAt b t) ++ drop (length (moreText (thirdAt b t))) t
-third-split b t = go (ℕ-discrete b 0)
-  where
-    go : Dec (b ≡ 0) → t ≡ moreText (thirdAt b t) ++ drop (length (moreText (thirdAt b t))) t
-    go (yes e) = rw (more-none (thirdAt b t) (sym (third-none b t e)))
-    go (no e) = rw (← (third-more b t e)) (more-split t)
+        rw f (rw (further-comma (drop 1 t)) (behind (drop 1 t) (ℕ-discrete (rateAt (drop 1 t)) 0)))
 
 -- ---- lists of rates
 
 -- rates, one behind the other, and what stands behind them
-from-read : (n a b c : ℕ) (u : List ℕ) → rateAt (rateText a ++ (moreText b ++ (moreText c ++ u))) ≡ a → moreAt (moreText b ++ (moreText c ++ u)) ≡ b
-    → thirdAt b (moreText c ++ u) ≡ c → fromRates n (ratesText a b c ++ u) ≡ settle a b c (limitBehind n u)
+from-read : (n a b c : ℕ) (u : List ℕ) → (a ≡ 0 → ⊥) → rateAt (decimal a ++ (furtherText b ++ (furtherText c ++ u))) ≡ a
+    → furtherAt (furtherText b ++ (furtherText c ++ u)) ≡ b → furtherAt (furtherText c ++ u) ≡ c
+    → fromRates n (ratesText a b c ++ u) ≡ settle a b c (tcmaxBehind n u)
 unfolding fromRates
-from-read n a b c u p q r =
-    let s : ratesText a b c ++ u ≡ rateText a ++ (moreText b ++ (moreText c ++ u)) = simp append-assoc in
-    rw (s, p, drop-at (rateText a) (moreText b ++ (moreText c ++ u)) (length (rateText a)) refl, q, drop-at (moreText b) (moreText c ++ u) (length (moreText b)) refl, r, drop-at (moreText c) u (length (moreText c)) refl)
+from-read n a b c u z p q r =
+    let s : ratesText a b c ++ u ≡ decimal a ++ (furtherText b ++ (furtherText c ++ u)) = simp append-assoc in
+    rw (s, p, ne-eqb a 0 z, drop-at (decimal a) (furtherText b ++ (furtherText c ++ u)) (length (decimal a)) refl, q, drop-at (furtherText b) (furtherText c ++ u) (length (furtherText b)) refl, r, drop-at (furtherText c) u (length (furtherText c)) refl)
 
 module _ (n : ℕ) (u : List ℕ) (f : startsWith (comma ∷ []) u ≡ false) where
-  none-behind : moreAt (moreText 0 ++ u) ≡ 0
-  none-behind = rw (more-none 0 refl) (more-other u f)
+  none-behind : furtherAt (furtherText 0 ++ u) ≡ 0
+  none-behind = rw (further-none 0 refl) (further-other u f)
 
-  pub rates-read : {a b c : ℕ} → IsRates a b c → fromRates n (ratesText a b c ++ u) ≡ settle a b c (limitBehind n u)
-  rates-read (one {a = a} ra) =
-      from-read n a 0 0 u (rate-read ra (moreText 0 ++ (moreText 0 ++ u))) (rw (more-none 0 refl) (more-other u f)) (sym (third-none 0 (moreText 0 ++ u) refl))
-  rates-read (two {a = a} {b = b} ra rb ab) =
-      from-read n a b 0 u (rate-read ra (moreText b ++ (moreText 0 ++ u))) (more-read rb (moreText 0 ++ u)) (sym (third-more b (moreText 0 ++ u) (λ e. omega (arith, rate-pos rb))) ∙ none-behind)
-  rates-read (three {a = a} {b = b} {c = c} ra rb rc ab ac bc) =
-      from-read n a b c u (rate-read ra (moreText b ++ (moreText c ++ u))) (more-read rb (moreText c ++ u)) (sym (third-more b (moreText c ++ u) (λ e. omega (arith, rate-pos rb))) ∙ more-read rc u)
+  rates-read′ : {a b c : ℕ} → Rates a b c → fromRates n (ratesText a b c ++ u) ≡ settle a b c (tcmaxBehind n u)
+  rates-read′ (one {a = a} ra) =
+      from-read n a 0 0 u (λ e. omega (arith, rate-pos a ra)) (rate-read a ra _) (rw (further-none 0 refl) (further-other u f)) none-behind
+  rates-read′ (two {a = a} {b = b} ra rb ab) =
+      from-read n a b 0 u (λ e. omega (arith, rate-pos a ra)) (rate-read a ra _) (further-read b rb _) none-behind
+  rates-read′ (three {a = a} {b = b} {c = c} ra rb rc ab ac bc) =
+      from-read n a b c u (λ e. omega (arith, rate-pos a ra)) (rate-read a ra _) (further-read b rb _) (further-read c rc u)
 
--- ---- rates that differ
+  pub rates-read : (a b c : ℕ) → areRates a b c ≡ true → fromRates n (ratesText a b c ++ u) ≡ settle a b c (tcmaxBehind n u)
+  rates-read a b c h = rates-read′ (rates-cases a b c h)
 
-pub differ-passes : {a b c : ℕ} → IsRates a b c → differTest a b c ≡ true
-unfolding differTest
-differ-passes (one {a = a} ra) = simp (ne-eqb a 0 (λ e. omega (arith, rate-pos ra)), ne-eqb 0 a (λ e. omega (arith, rate-pos ra)))
-differ-passes (two {a = a} {b = b} ra rb ab) =
-    simp (ne-eqb a 0 (λ e. omega (arith, rate-pos ra)), ne-eqb 0 a (λ e. omega (arith, rate-pos ra)), ne-eqb b a (λ e. ab (sym e)))
-differ-passes (three {a = a} {b = b} {c = c} ra rb rc ab ac bc) =
-    simp (ne-eqb a 0 (λ e. omega (arith, rate-pos ra)), ne-eqb c 0 (λ e. omega (arith, rate-pos rc)), ne-eqb b a (λ e. ab (sym e)), ne-eqb c a (λ e. ac (sym e)), ne-eqb b c bc)
-
-differ-passed : (a b c : ℕ) → ((a ≡ 0 → ⊥) → IsRate a) → ((b ≡ 0 → ⊥) → IsRate b) → ((c ≡ 0 → ⊥) → (b ≡ 0 → ⊥) × IsRate c) → differTest a b c ≡ true → IsRates a b c
-unfolding differTest
-differ-passed a b c fa fb fc h =
-    let p = second-true (eqb a 0) _ h in
-    let q = second-true (eqb b a) _ (p .1) in
-    let r = second-true (eqb c a) _ (q .1) in
-    go (fa (eqb-false a 0 (p .0))) (λ e. eqb-false b a (q .0) (sym e)) (λ e. eqb-false c a (r .0) (sym e)) (either-true (eqb c 0) true (not (eqb b c)) (r .1)) (ℕ-discrete b 0)
-  where
-    go : IsRate a → (a ≡ b → ⊥) → (a ≡ c → ⊥) → ((eqb c 0 ≡ true) × (true ≡ true)) ⊎ ((eqb c 0 ≡ false) × (not (eqb b c) ≡ true)) → Dec (b ≡ 0) → IsRates a b c
-    go ra ab ac (inl z) (yes y) = rw (y, eqb-true c 0 (z .0)) (one ra)
-    go ra ab ac (inl z) (no y) = rw (eqb-true c 0 (z .0)) (two ra (fb y) ab)
-    go ra ab ac (inr z) d =
-        let k = fc (eqb-false c 0 (z .0)) in
-        three ra (fb (k .0)) (k .1) ab ac (eqb-false b c (not-true (eqb b c) (z .1)))
-
-more-is : (t : List ℕ) → (moreAt t ≡ 0 → ⊥) → IsRate (moreAt t)
-more-is t n = go (startsWith (comma ∷ []) t) refl
-  where
-    go : (x : Bool) → startsWith (comma ∷ []) t ≡ x → IsRate (moreAt t)
-    go false e = absurd (n (more-other t e))
-    go true e =
-        let f : moreAt t ≡ rateAt (drop 1 t) = ap moreAt (starts-exact (comma ∷ []) t refl e) ∙ more-comma (drop 1 t) in
-        rw f (rate-found (drop 1 t) (rateAt (drop 1 t)) refl (λ z. n (f ∙ z)) .rate)
-
-third-is : (b : ℕ) (t : List ℕ) → (thirdAt b t ≡ 0 → ⊥) → (b ≡ 0 → ⊥) × IsRate (thirdAt b t)
-third-is b t n = go (ℕ-discrete b 0)
-  where
-    go : Dec (b ≡ 0) → (b ≡ 0 → ⊥) × IsRate (thirdAt b t)
-    go (yes e) = absurd (n (sym (third-none b t e)))
-    go (no e) = (e, rw (← (third-more b t e)) (more-is t (λ z. n (sym (third-more b t e) ∙ z))))
-
--- the rates that a text starts with, and what stands behind them
+-- the places that a text starts with, and what stands behind them
 pub record Rated (t : List ℕ) : Type 0 where
   pub a : ℕ
   pub b : ℕ
   pub c : ℕ
   pub rest : List ℕ
   pub text : t ≡ ratesText a b c ++ rest
-  pub rates : differTest a b c ≡ true → IsRates a b c
-  pub read : (n : ℕ) → fromRates n t ≡ settle a b c (limitBehind n rest)
+  pub read : (n : ℕ) → fromRates n t ≡ settle a b c (tcmaxBehind n rest)
 
-pub rated : (t : List ℕ) → Rated t
+pub rated : (t : List ℕ) → (rateAt t ≡ 0 → ⊥) → Rated t
 unfolding fromRates
-rated t =
+rated t z =
     let a = rateAt t in
-    let t₁ = drop (length (rateText a)) t in
-    let b = moreAt t₁ in
-    let t₂ = drop (length (moreText b)) t₁ in
-    let c = thirdAt b t₂ in
-    let t₃ = drop (length (moreText c)) t₂ in
-    let e : t ≡ rateText a ++ (moreText b ++ (moreText c ++ t₃)) =
-    rate-split t ∙ ap (λ (l : List ℕ). rateText a ++ l) (more-split t₁ ∙ ap (λ (l : List ℕ). moreText b ++ l) (third-split b t₂)) in
-    record {
-      a = a;
-      b = b;
-      c = c;
-      rest = t₃;
-      text = e ∙ simp append-assoc;
-      rates = differ-passed a b c (λ n. rate-found t a refl n .rate) (more-is t₁) (third-is b t₂);
-      read = λ n. refl;
-    }
+    let t₁ = drop (length (decimal a)) t in
+    let b = furtherAt t₁ in
+    let t₂ = drop (length (furtherText b)) t₁ in
+    let c = furtherAt t₂ in
+    let t₃ = drop (length (furtherText c)) t₂ in
+    let e : t ≡ decimal a ++ (furtherText b ++ (furtherText c ++ t₃)) =
+    rate-split t z ∙ ap (λ (l : List ℕ). decimal a ++ l) (further-split t₁ ∙ ap (λ (l : List ℕ). furtherText b ++ l) (further-split t₂)) in
+    record { a = a; b = b; c = c; rest = t₃; text = e ∙ simp append-assoc; read = λ n. simp (ne-eqb (rateAt t) 0 z) }
+
+pub rate-none : (n : ℕ) (t : List ℕ) → rateAt t ≡ 0 → wrongText ≡ fromRates n t
+unfolding fromRates
+rate-none n t e = simp (eq-eqb (rateAt t) 0 e)
 
 -- ---- the code's steps
 
-pub at-2400 : (t : List ℕ) → rateAt (50 ∷ t) ≡ cond (startsWith (drop 1 text2400) t) 2400 0
-unfolding rateAt lower
-at-2400 t = refl
+rate-tests : (t : List ℕ)
+    → rateAt t ≡ cond (startsWith (50 ∷ 52 ∷ 48 ∷ 48 ∷ []) t) 2400 (cond (startsWith (49 ∷ 50 ∷ 48 ∷ 48 ∷ []) t) 1200 (cond (startsWith (54 ∷ 48 ∷ 48 ∷ []) t) 600 0))
+unfolding rateAt decimal digits
+rate-tests t = refl
 
-pub at-1200 : (t : List ℕ) → rateAt (49 ∷ t) ≡ cond (startsWith (drop 1 text1200) t) 1200 0
-unfolding rateAt lower
-at-1200 t = refl
+module _ (t : List ℕ) where
+  pub is-2400 : startsWith (50 ∷ 52 ∷ 48 ∷ 48 ∷ []) t ≡ true → 2400 ≡ rateAt t
+  is-2400 x = sym (rate-tests t ∙ simp x)
 
-pub at-600 : (t : List ℕ) → rateAt (54 ∷ t) ≡ cond (startsWith (drop 1 text600) t) 600 0
-unfolding rateAt lower
-at-600 t = refl
+  module _ (x : startsWith (50 ∷ 52 ∷ 48 ∷ 48 ∷ []) t ≡ false) where
+    pub is-1200 : startsWith (49 ∷ 50 ∷ 48 ∷ 48 ∷ []) t ≡ true → 1200 ≡ rateAt t
+    is-1200 y = sym (rate-tests t ∙ simp (x, y))
 
-at-other : (x : ℕ) (t : List ℕ) → (x ≡ 50 → ⊥) → (x ≡ 49 → ⊥) → (x ≡ 54 → ⊥) → rateAt (x ∷ t) ≡ 0
-unfolding rateAt
-at-other x t p q r =
-    simp (ne-eqb (lower x) 50 (λ e. p (fold-only x 50 e (omega arith))), ne-eqb (lower x) 49 (λ e. q (fold-only x 49 e (omega arith))), ne-eqb (lower x) 54 (λ e. r (fold-only x 54 e (omega arith))))
+    module _ (y : startsWith (49 ∷ 50 ∷ 48 ∷ 48 ∷ []) t ≡ false) where
+      pub is-600 : startsWith (54 ∷ 48 ∷ 48 ∷ []) t ≡ true → 600 ≡ rateAt t
+      is-600 z = sym (rate-tests t ∙ simp (x, y, z))
 
-at-end : rateAt [] ≡ 0
-unfolding rateAt
-at-end = refl
+      pub is-none : startsWith (54 ∷ 48 ∷ 48 ∷ []) t ≡ false → 0 ≡ rateAt t
+      is-none z = sym (rate-tests t ∙ simp (x, y, z))
 
 module _ (t : List ℕ) (at : ℕ) where
-  pub rate-end : at ≡ length t → 0 ≡ rateAt (drop at t)
-  rate-end e = sym (ap rateAt (ap (λ (k : ℕ). drop k t) e ∙ drop-length t) ∙ at-end)
-
-  module _ (x : ℕ) (lt : at < length t) (is : x ≡ getD t at 0) where
-    here : drop at t ≡ x ∷ drop (at + 1) t
-    here = drop-cons t at 0 lt ∙ rw (is, add-one at)
-
-    -- by its first digit d, behind which the word w stands in the rate v
-    pub rate-by : (d : ℕ) (w : List ℕ) (v r : ℕ) → ((s : List ℕ) → rateAt (d ∷ s) ≡ cond (startsWith w s) v 0)
-        → x ≡ d → r ≡ cond (startsWith w (drop (at + 1) t)) v 0 → r ≡ rateAt (drop at t)
-    rate-by d w v r h e f = f ∙ sym (ap rateAt (here ∙ ap (λ (y : ℕ). y ∷ drop (at + 1) t) e) ∙ h (drop (at + 1) t))
-
-    pub rate-other : (x ≡ 50 → ⊥) → (x ≡ 49 → ⊥) → (x ≡ 54 → ⊥) → 0 ≡ rateAt (drop at t)
-    rate-other p q r = sym (ap rateAt here ∙ at-other x (drop (at + 1) t) p q r)
-
-  pub more-step : startsWith (comma ∷ []) (drop at t) ≡ true → rateAt (drop (at + 1) t) ≡ moreAt (drop at t)
-  unfolding moreAt
-  more-step e = simp e (ap rateAt (sym (drop-on at 1 t)))
+  pub further-step : startsWith (comma ∷ []) (drop at t) ≡ true → rateAt (drop (at + 1) t) ≡ furtherAt (drop at t)
+  unfolding furtherAt
+  further-step e = simp e (ap rateAt (sym (drop-drop 1 at t)))
 
   module _ (l : at ≤ length t) (k : ℕ) where
-    pub rate-fits : (a : ℕ) → a ≡ rateAt (drop at t) → k ≡ length (rateText a) → at + k ≤ length t
-    rate-fits a e f = rw (f, e) (split-fits (rateText (rateAt (drop at t))) t at l (rate-split (drop at t)))
+    pub rate-fits : (a : ℕ) → a ≡ rateAt (drop at t) → (a ≡ 0 → ⊥) → k ≡ length (decimal a) → at + k ≤ length t
+    rate-fits a e z f = rw (f, e) (split-fits (decimal (rateAt (drop at t))) t at l (rate-split (drop at t) (λ y. z (e ∙ y))))
 
-    pub more-fits : (b : ℕ) → b ≡ moreAt (drop at t) → k ≡ length (moreText b) → at + k ≤ length t
-    more-fits b e f = rw (f, e) (split-fits (moreText (moreAt (drop at t))) t at l (more-split (drop at t)))
+    pub further-fits : (b : ℕ) → b ≡ furtherAt (drop at t) → k ≡ length (furtherText b) → at + k ≤ length t
+    further-fits b e f = rw (f, e) (split-fits (furtherText (furtherAt (drop at t))) t at l (further-split (drop at t)))
 
-    pub third-fits : (b c : ℕ) → c ≡ thirdAt b (drop at t) → k ≡ length (moreText c) → at + k ≤ length t
-    third-fits b c e f = rw (f, e) (split-fits (moreText (thirdAt b (drop at t))) t at l (third-split b (drop at t)))
-
--- the rates that stand from an index on, and the lengths of the first two's texts
+-- the places that stand from an index on, and the lengths of the first two's texts
 pub record Taken (t : List ℕ) (at a k₁ b k₂ c : ℕ) : Type 0 where
   pub first : a ≡ rateAt (drop at t)
-  pub first-long : k₁ ≡ length (rateText a)
-  pub second : b ≡ moreAt (drop (at + k₁) t)
-  pub second-long : k₂ ≡ length (moreText b)
-  pub third : c ≡ thirdAt b (drop (at + k₁ + k₂) t)
+  pub first-some : a ≡ 0 → ⊥
+  pub first-long : k₁ ≡ length (decimal a)
+  pub second : b ≡ furtherAt (drop (at + k₁) t)
+  pub second-long : k₂ ≡ length (furtherText b)
+  pub third : c ≡ furtherAt (drop (at + k₁ + k₂) t)
 
-pub from-steps : {t : List ℕ} {at a k₁ b k₂ c : ℕ} → Taken t at a k₁ b k₂ c → (n k₃ : ℕ) → k₃ ≡ length (moreText c)
-    → settle a b c (limitBehind n (drop (at + k₁ + k₂ + k₃) t)) ≡ fromRates n (drop at t)
+pub from-steps : {t : List ℕ} {at a k₁ b k₂ c : ℕ} → Taken t at a k₁ b k₂ c → (n k₃ : ℕ) → k₃ ≡ length (furtherText c)
+    → settle a b c (tcmaxBehind n (drop (at + k₁ + k₂ + k₃) t)) ≡ fromRates n (drop at t)
 unfolding fromRates
 from-steps {t} {at} {a} {k₁} {b} {k₂} {c} h n k₃ f₃ =
-    let s₁ : drop (length (rateText a)) (drop at t) ≡ drop (at + k₁) t =
-    drop-on at (length (rateText a)) t ∙ ap (λ (k : ℕ). drop (at + k) t) (sym (h .first-long)) in
-    let s₂ : drop (length (moreText b)) (drop (at + k₁) t) ≡ drop (at + k₁ + k₂) t =
-    drop-on (at + k₁) (length (moreText b)) t ∙ ap (λ (k : ℕ). drop (at + k₁ + k) t) (sym (h .second-long)) in
-    let s₃ : drop (length (moreText c)) (drop (at + k₁ + k₂) t) ≡ drop (at + k₁ + k₂ + k₃) t =
-    drop-on (at + k₁ + k₂) (length (moreText c)) t ∙ ap (λ (k : ℕ). drop (at + k₁ + k₂ + k) t) (sym f₃) in
-    rw (← (h .first), s₁, ← (h .second), s₂, ← (h .third), s₃)
+    let s₁ : drop (length (decimal a)) (drop at t) ≡ drop (at + k₁) t =
+    drop-drop (length (decimal a)) at t ∙ ap (λ (k : ℕ). drop (at + k) t) (sym (h .first-long)) in
+    let s₂ : drop (length (furtherText b)) (drop (at + k₁) t) ≡ drop (at + k₁ + k₂) t =
+    drop-drop (length (furtherText b)) (at + k₁) t ∙ ap (λ (k : ℕ). drop (at + k₁ + k) t) (sym (h .second-long)) in
+    let s₃ : drop (length (furtherText c)) (drop (at + k₁ + k₂) t) ≡ drop (at + k₁ + k₂ + k₃) t =
+    drop-drop (length (furtherText c)) (at + k₁ + k₂) t ∙ ap (λ (k : ℕ). drop (at + k₁ + k₂ + k) t) (sym f₃) in
+    rw (← (h .first), ne-eqb a 0 (h .first-some), s₁, ← (h .second), s₂, ← (h .third), s₃)

@@ -1,118 +1,122 @@
--- Laws of settings: the tests decide the definitions.
-use mathlib.Core.Path.{_≡_, refl, sym, _∙_}
-use mathlib.Core.Logic.{_⊎_, inl, inr}
-use mathlib.Core.Bool.{Bool, true, false, cond, true≢false, false≢true}
-use Prim.Native.Nat.{ℕ, _≤_, _<_}
+-- Rates and settings by their cases, out of the tests that define them.
+use mathlib.Core.Path.{_≡_, refl}
+use mathlib.Core.Logic.{_⊎_, inl, inr, ⊎-elim}
+use mathlib.Core.Bool.{true, false, not, false≢true, _&&_, _||_}
+use Prim.Native.Nat.{ℕ, _≤_}
 use native.Mathlib.Omega.{arith}
-use lib.Dec.{eqb}
-use borrow.Author.Tests.{eqb-true, eqb-false, ne-eqb}
+use lib.Dec.{eqb, leb}
+use borrow.Author.Tests.{eqb-true, eqb-false, not-true, leb-true, le-leb}
 use Rattle.fmtp.specs.declared.Settings.{Settings}
-use Rattle.fmtp.specs.Settings.{IsRate, bps2400, bps1200, bps600, IsRates, one, two, three, IsSettings, Decides, holds, fails}
-use Rattle.fmtp.specs.Steps.{IsPlace, free, taken, rateTest, thirdTest, ratesTest}
-use Rattle.fmtp.proofs.Flags.{both-true, second-true, either-true}
+use Rattle.fmtp.specs.Settings.{isRate, areRates, isTcmax, isSettings, IsSettings, settingsOf}
+use Rattle.fmtp.proofs.Flags.{both-true, either-true}
 
--- ---- the tests
+-- ---- a rate is one of three
 
-pub rate-passes : {r : ℕ} → IsRate r → rateTest r ≡ true
-unfolding rateTest
-rate-passes bps2400 = refl
-rate-passes bps1200 = refl
-rate-passes bps600 = refl
+pub data Rate : ℕ → Type 0 where
+  bps2400 : Rate 2400
+  bps1200 : Rate 1200
+  bps600 : Rate 600
 
-pub rate-passed : (r : ℕ) → rateTest r ≡ true → IsRate r
-unfolding rateTest
-rate-passed r h = go (either-true (eqb r 2400) true _ h)
+pub rate-cases : (r : ℕ) → isRate r ≡ true → Rate r
+unfolding isRate
+rate-cases r h = ⊎-elim (λ e. rw (eqb-true r 2400 e) bps2400) (λ g. second (either-true (eqb r 1200) _ g)) (either-true (eqb r 2400) _ h)
   where
-    third : ((eqb r 1200 ≡ true) × (true ≡ true)) ⊎ ((eqb r 1200 ≡ false) × (eqb r 600 ≡ true)) → IsRate r
-    third (inl e) = rw (eqb-true r 1200 (e .0)) bps1200
-    third (inr e) = rw (eqb-true r 600 (e .1)) bps600
+    third : (eqb r 600 ≡ true) ⊎ (false ≡ true) → Rate r
+    third (inl e) = rw (eqb-true r 600 e) bps600
+    third (inr e) = absurd (false≢true e)
 
-    go : ((eqb r 2400 ≡ true) × (true ≡ true)) ⊎ ((eqb r 2400 ≡ false) × (cond (eqb r 1200) true (eqb r 600) ≡ true)) → IsRate r
-    go (inl e) = rw (eqb-true r 2400 (e .0)) bps2400
-    go (inr e) = third (either-true (eqb r 1200) true (eqb r 600) (e .1))
+    second : (eqb r 1200 ≡ true) ⊎ ((eqb r 600 || false) ≡ true) → Rate r
+    second (inl e) = rw (eqb-true r 1200 e) bps1200
+    second (inr e) = third (either-true (eqb r 600) false e)
 
--- a rate is not the number of an unused place
-pub rate-pos : {r : ℕ} → IsRate r → 1 ≤ r
-rate-pos bps2400 = omega arith
-rate-pos bps1200 = omega arith
-rate-pos bps600 = omega arith
+-- 0, the number of an unused place, is no rate
+pub unused : (r : ℕ) → r ≡ 0 → isRate r ≡ false
+unfolding isRate
+unused r e = rw e
+
+pub rate-pos : (r : ℕ) → isRate r ≡ true → 1 ≤ r
+rate-pos r h = go (rate-cases r h)
+  where
+    go : {r : ℕ} → Rate r → 1 ≤ r
+    go bps2400 = omega arith
+    go bps1200 = omega arith
+    go bps600 = omega arith
 
 -- the only rate that is neither of the other two
-pub only-600 : {r : ℕ} → IsRate r → (r ≡ 2400 → ⊥) → (r ≡ 1200 → ⊥) → r ≡ 600
-only-600 bps2400 x y = absurd (x refl)
-only-600 bps1200 x y = absurd (y refl)
-only-600 bps600 x y = refl
-
--- ---- places
-
-pub place-rate : {r : ℕ} → IsPlace r → (r ≡ 0 → ⊥) → IsRate r
-place-rate free n = absurd (n refl)
-place-rate (taken i) n = i
-
-pub rates-first : {a b c : ℕ} → IsRates a b c → IsRate a
-rates-first (one ra) = ra
-rates-first (two ra rb ab) = ra
-rates-first (three ra rb rc ab ac bc) = ra
-
-pub rates-second : {a b c : ℕ} → IsRates a b c → IsPlace b
-rates-second (one ra) = free
-rates-second (two ra rb ab) = taken rb
-rates-second (three ra rb rc ab ac bc) = taken rb
-
-pub rates-third : {a b c : ℕ} → IsRates a b c → IsPlace c
-rates-third (one ra) = free
-rates-third (two ra rb ab) = free
-rates-third (three ra rb rc ab ac bc) = taken rc
-
--- ---- the tests of rates and settings
-
-pub rates-pass : {a b c : ℕ} → IsRates a b c → ratesTest a b c ≡ true
-unfolding ratesTest thirdTest
-rates-pass (one ra) = simp (rate-passes ra)
-rates-pass (two {a = a} {b = b} ra rb ab) = simp (rate-passes ra, rate-passes rb, ne-eqb b 0 (λ e. omega (arith, rate-pos rb)), ne-eqb a b ab)
-rates-pass (three {a = a} {b = b} {c = c} ra rb rc ab ac bc) =
-    simp (rate-passes ra, rate-passes rb, rate-passes rc, ne-eqb b 0 (λ e. omega (arith, rate-pos rb)), ne-eqb c 0 (λ e. omega (arith, rate-pos rc)), ne-eqb a b ab, ne-eqb a c ac, ne-eqb b c bc)
-
-third-passed : (a b c : ℕ) → IsRate a → IsRate b → (a ≡ b → ⊥) → thirdTest a b c ≡ true → IsRates a b c
-unfolding thirdTest
-third-passed a b c ra rb ab h = go (either-true (eqb c 0) true _ h)
+pub only-600 : (r : ℕ) → isRate r ≡ true → (r ≡ 2400 → ⊥) → (r ≡ 1200 → ⊥) → r ≡ 600
+only-600 r h = go (rate-cases r h)
   where
-    go : ((eqb c 0 ≡ true) × (true ≡ true)) ⊎ ((eqb c 0 ≡ false) × (cond (eqb a c) false (cond (eqb b c) false (rateTest c)) ≡ true)) → IsRates a b c
-    go (inl e) = rw (eqb-true c 0 (e .0)) (two ra rb ab)
-    go (inr e) =
-        let p = second-true (eqb a c) (cond (eqb b c) false (rateTest c)) (e .1) in
-        let q = second-true (eqb b c) (rateTest c) (p .1) in
-        three ra rb (rate-passed c (q .1)) ab (eqb-false a c (p .0)) (eqb-false b c (q .0))
+    go : {r : ℕ} → Rate r → (r ≡ 2400 → ⊥) → (r ≡ 1200 → ⊥) → r ≡ 600
+    go bps2400 x y = absurd (x refl)
+    go bps1200 x y = absurd (y refl)
+    go bps600 x y = refl
 
-pub rates-passed : (a b c : ℕ) → ratesTest a b c ≡ true → IsRates a b c
-unfolding ratesTest
-rates-passed a b c h =
-    let p = both-true (rateTest a) _ h in
-    go (rate-passed a (p .0)) (either-true (eqb b 0) (eqb c 0) _ (p .1))
-  where
-    go : IsRate a → ((eqb b 0 ≡ true) × (eqb c 0 ≡ true)) ⊎ ((eqb b 0 ≡ false) × (cond (eqb a b) false (cond (rateTest b) (thirdTest a b c) false) ≡ true)) → IsRates a b c
-    go ra (inl e) = rw (eqb-true b 0 (e .0), eqb-true c 0 (e .1)) (one ra)
-    go ra (inr e) =
-        let p = second-true (eqb a b) (cond (rateTest b) (thirdTest a b c) false) (e .1) in
-        let q = both-true (rateTest b) (thirdTest a b c) (p .1) in
-        third-passed a b c ra (rate-passed b (q .0)) (eqb-false a b (p .0)) (q .1)
+-- ---- rates are one, two or three
 
--- ---- settings are decided
+pub data Rates : ℕ → ℕ → ℕ → Type 0 where
+  one : {a : ℕ} → isRate a ≡ true → Rates a 0 0
+  two : {a b : ℕ} → isRate a ≡ true → isRate b ≡ true → (a ≡ b → ⊥) → Rates a b 0
+  three : {a b c : ℕ} → isRate a ≡ true → isRate b ≡ true → isRate c ≡ true → (a ≡ b → ⊥) → (a ≡ c → ⊥) → (b ≡ c → ⊥) → Rates a b c
 
-pub tcmax-low : (s : Settings) → s .tcmax < 1 → Decides (IsSettings s) false
-tcmax-low s h = fails (λ i. omega (arith, i .tcmax .least))
+module _ (a b c : ℕ) where
+  first-case : (isRate a && eqb b 0 && eqb c 0) ≡ true → Rates a b c
+  first-case h =
+      let p = both-true (isRate a && eqb b 0) (eqb c 0) h in
+      let q = both-true (isRate a) (eqb b 0) (p .0) in
+      rw (eqb-true b 0 (q .1), eqb-true c 0 (p .1)) (one (q .0))
 
-pub tcmax-high : (s : Settings) → 255 < s .tcmax → Decides (IsSettings s) false
-tcmax-high s h = fails (λ i. omega (arith, i .tcmax .most))
+  second-case : (isRate a && isRate b && not (eqb a b) && eqb c 0) ≡ true → Rates a b c
+  second-case h =
+      let p = both-true (isRate a && isRate b && not (eqb a b)) (eqb c 0) h in
+      let q = both-true (isRate a && isRate b) (not (eqb a b)) (p .0) in
+      let r = both-true (isRate a) (isRate b) (q .0) in
+      rw (eqb-true c 0 (p .1)) (two (r .0) (r .1) (eqb-false a b (not-true (eqb a b) (q .1))))
 
-pub settings-decided : (s : Settings) (b : Bool) → 1 ≤ s .tcmax → s .tcmax ≤ 255 → b ≡ ratesTest (s .first) (s .second) (s .third) → Decides (IsSettings s) b
-settings-decided s true l m e = holds (record { rates = rates-passed (s .first) (s .second) (s .third) (sym e); tcmax = record { least = l; most = m } })
-settings-decided s false l m e = fails (λ i. false≢true (e ∙ rates-pass (i .rates)))
+  third-case : (isRate a && isRate b && isRate c && not (eqb a b) && not (eqb a c) && not (eqb b c)) ≡ true → Rates a b c
+  third-case h =
+      let p = both-true (isRate a && isRate b && isRate c && not (eqb a b) && not (eqb a c)) (not (eqb b c)) h in
+      let q = both-true (isRate a && isRate b && isRate c && not (eqb a b)) (not (eqb a c)) (p .0) in
+      let r = both-true (isRate a && isRate b && isRate c) (not (eqb a b)) (q .0) in
+      let s = both-true (isRate a && isRate b) (isRate c) (r .0) in
+      let t = both-true (isRate a) (isRate b) (s .0) in
+      three (t .0) (t .1) (s .1) (eqb-false a b (not-true (eqb a b) (r .1))) (eqb-false a c (not-true (eqb a c) (q .1))) (eqb-false b c (not-true (eqb b c) (p .1)))
 
-pub decided-true : {P : Type 0} {b : Bool} → Decides P b → b ≡ true → P
-decided-true (holds p) e = p
-decided-true (fails f) e = absurd (false≢true e)
+  pub rates-cases : areRates a b c ≡ true → Rates a b c
+  unfolding areRates
+  rates-cases h = ⊎-elim (λ g. ⊎-elim first-case second-case (either-true _ _ g)) third-case (either-true _ _ h)
 
-pub decided-false : {P : Type 0} {b : Bool} → Decides P b → b ≡ false → P → ⊥
-decided-false (holds p) e = absurd (true≢false e)
-decided-false (fails f) e = f
+-- the places of rates: the first is a rate, each other is a rate or unused
+pub first-rate : {a b c : ℕ} → Rates a b c → isRate a ≡ true
+first-rate (one ra) = ra
+first-rate (two ra rb ab) = ra
+first-rate (three ra rb rc ab ac bc) = ra
+
+pub second-rate : {a b c : ℕ} → Rates a b c → (b ≡ 0 → ⊥) → isRate b ≡ true
+second-rate (one ra) n = absurd (n refl)
+second-rate (two ra rb ab) n = rb
+second-rate (three ra rb rc ab ac bc) n = rb
+
+pub third-rate : {a b c : ℕ} → Rates a b c → (c ≡ 0 → ⊥) → isRate c ≡ true
+third-rate (one ra) n = absurd (n refl)
+third-rate (two ra rb ab) n = absurd (n refl)
+third-rate (three ra rb rc ab ac bc) n = rc
+
+-- ---- tcmax and settings
+
+pub tcmax-range : (n : ℕ) → isTcmax n ≡ true → (1 ≤ n) × (n ≤ 255)
+unfolding isTcmax
+tcmax-range n h =
+    let p = both-true (leb 1 n) (leb n 255) h in
+    (leb-true 1 n (p .0), leb-true n 255 (p .1))
+
+pub in-range : (n : ℕ) → 1 ≤ n → n ≤ 255 → isTcmax n ≡ true
+unfolding isTcmax
+in-range n l m = simp (le-leb 1 n l, le-leb n 255 m)
+
+pub settings-parts : (s : Settings) → IsSettings s → (areRates (s .first) (s .second) (s .third) ≡ true) × (isTcmax (s .tcmax) ≡ true)
+unfolding isSettings
+settings-parts s h = both-true (areRates (s .first) (s .second) (s .third)) (isTcmax (s .tcmax)) h
+
+pub settings-whole : (a b c n : ℕ) → areRates a b c ≡ true → isTcmax n ≡ true → IsSettings (settingsOf a b c n)
+unfolding isSettings
+settings-whole a b c n r t = simp (r, t)

@@ -1,74 +1,101 @@
--- Laws of the setting text: what is meant are settings, the text that is written means its settings, and its length.
-use mathlib.Core.Path.{_≡_, refl, sym, ap, _∙_}
-use mathlib.Core.Logic.{_⊎_, inl, inr}
+-- The text of settings: it means them, its length, and the longest text.
+use mathlib.Core.Path.{_≡_, refl, ap}
+use mathlib.Core.Bool.{true}
 use mathlib.Core.List.{List, _∷_, _++_, map}
 use Prim.Native.Nat.{ℕ, _+_, _≤_}
 use native.Mathlib.Omega.{arith}
 use lib.ListN.{length, length-append}
 use Rattle.fmtp.specs.declared.Settings.{Settings}
-use Rattle.fmtp.specs.Settings.{IsRate, bps2400, bps1200, bps600, IsRates, one, two, three, IsSettings}
-use Rattle.fmtp.specs.Text.{lower, bitrateName, tcmaxName, equals, rateText, moreText, ratesText, decimal, Item, Means, neither, bitrate, tcmax, bitrateTcmax, tcmaxBitrate}
-use Rattle.fmtp.specs.Writer.{textOf}
-use Rattle.fmtp.proofs.RateLaws.{text-most, more-most, more-none, more-rate}
-use Rattle.fmtp.proofs.NumberLaws.{decimal-most}
+use Rattle.fmtp.specs.Settings.{isRate, areRates, isTcmax, IsSettings}
+use Rattle.fmtp.specs.Text.{lower, bitrateName, tcmaxName, equals, digits, decimal, furtherText, ratesText, textOf, missingRate, missingTcmax}
+use Rattle.fmtp.specs.Means.{Spelled, Means, neither, bitrate, tcmax, bitrateTcmax, tcmaxBitrate}
+use Rattle.fmtp.proofs.SettingsLaws.{Rate, bps2400, bps1200, bps600, rate-cases, rate-pos, Rates, one, two, three, rates-cases, tcmax-range, settings-parts, settings-whole}
+use Rattle.fmtp.proofs.Decimals.{further-none, further-some, tcmax-long}
+
+-- ---- what is meant are settings
+
+missing-rates : areRates missingRate 0 0 ≡ true
+unfolding areRates isRate
+missing-rates = refl
+
+missing-number : isTcmax missingTcmax ≡ true
+unfolding isTcmax
+missing-number = refl
 
 pub means-settings : {t : List ℕ} {s : Settings} → Means t s → IsSettings s
-means-settings neither = record { rates = one bps2400; tcmax = record { least = omega arith; most = omega arith } }
-means-settings (bitrate i) = record { rates = i .rates; tcmax = record { least = omega arith; most = omega arith } }
-means-settings (tcmax i) = record { rates = one bps2400; tcmax = i .number }
-means-settings (bitrateTcmax i j) = record { rates = i .rates; tcmax = j .number }
-means-settings (tcmaxBitrate i j) = record { rates = j .rates; tcmax = i .number }
+means-settings neither = settings-whole _ _ _ _ missing-rates missing-number
+means-settings (bitrate i) = settings-whole _ _ _ _ (i .rates) missing-number
+means-settings (tcmax i) = settings-whole _ _ _ _ missing-rates (i .number)
+means-settings (bitrateTcmax i j) = settings-whole _ _ _ _ (i .rates) (j .number)
+means-settings (tcmaxBitrate i j) = settings-whole _ _ _ _ (j .rates) (i .number)
 
--- ---- the text that is written
+-- ---- the text of settings means them
 
-plain : (name value : List ℕ) → map lower name ≡ name → Item name value (name ++ (equals ∷ value))
+plain : (name value : List ℕ) → map lower name ≡ name → Spelled name value (name ++ (equals ∷ value))
 plain name value e = record { spelling = name; folds = e; text = refl }
 
 pub written-means : (s : Settings) → IsSettings s → Means (textOf s) s
 unfolding textOf lower
 written-means s i =
+    let p = settings-parts s i in
     bitrateTcmax
-    (record { rates = i .rates; item = plain bitrateName (ratesText (s .first) (s .second) (s .third)) refl })
-    (record { number = i .tcmax; item = plain tcmaxName (decimal (s .tcmax)) refl })
+    (record { rates = p .0; item = plain bitrateName (ratesText (s .first) (s .second) (s .third)) refl })
+    (record { number = p .1; item = plain tcmaxName (decimal (s .tcmax)) refl })
 
-pub rates-length : (a b c : ℕ) → length (ratesText a b c) ≡ length (rateText a) + length (moreText b) + length (moreText c)
+-- ---- its length
+
+pub rates-length : (a b c : ℕ) → length (ratesText a b c) ≡ length (decimal a) + length (furtherText b) + length (furtherText c)
 rates-length a b c = simp length-append (omega arith)
 
-pub text-length : (s : Settings)
-    → length (textOf s) ≡ 15 + (length (rateText (s .first)) + length (moreText (s .second)) + length (moreText (s .third))) + length (decimal (s .tcmax))
+pub text-length : (s : Settings) → length (textOf s) ≡ 15 + length (ratesText (s .first) (s .second) (s .third)) + length (decimal (s .tcmax))
 unfolding textOf
 text-length s = simp length-append (omega arith)
 
--- ---- the longest text
+-- the length of a rate's text, and that only 600 has the short one
+data Width : ℕ → ℕ → Type 0 where
+  long2400 : Width 2400 4
+  long1200 : Width 1200 4
+  short600 : Width 600 3
 
--- one of any three different rates is 600, whose text is the shortest
-data Wide (r : ℕ) : Type 0 where
-  narrow : length (rateText r) ≡ 3 → Wide r
-  wide : (r ≡ 2400) ⊎ (r ≡ 1200) → Wide r
+width : (r : ℕ) → isRate r ≡ true → Width r (length (decimal r))
+unfolding decimal digits
+width r h = go (rate-cases r h)
+  where
+    go : {r : ℕ} → Rate r → Width r (length (decimal r))
+    go bps2400 = long2400
+    go bps1200 = long1200
+    go bps600 = short600
 
-wide-or : {r : ℕ} → IsRate r → Wide r
-unfolding rateText
-wide-or bps2400 = wide (inl refl)
-wide-or bps1200 = wide (inr refl)
-wide-or bps600 = narrow refl
+width-most : {r k : ℕ} → Width r k → k ≤ 4
+width-most long2400 = omega arith
+width-most long1200 = omega arith
+width-most short600 = omega arith
 
-one-narrow : {a b c : ℕ} → (a ≡ b → ⊥) → (a ≡ c → ⊥) → (b ≡ c → ⊥) → Wide a → Wide b → Wide c
-    → length (rateText a) + length (rateText b) + length (rateText c) ≤ 11
-one-narrow {a} {b} {c} ab ac bc (narrow x) y z = omega (arith, text-most b, text-most c)
-one-narrow {a} {b} {c} ab ac bc (wide x) (narrow y) z = omega (arith, text-most a, text-most c)
-one-narrow {a} {b} {c} ab ac bc (wide x) (wide y) (narrow z) = omega (arith, text-most a, text-most b)
-one-narrow ab ac bc (wide (inl x)) (wide (inl y)) (wide z) = absurd (ab (x ∙ sym y))
-one-narrow ab ac bc (wide (inr x)) (wide (inr y)) (wide z) = absurd (ab (x ∙ sym y))
-one-narrow ab ac bc (wide (inl x)) (wide (inr y)) (wide (inl z)) = absurd (ac (x ∙ sym z))
-one-narrow ab ac bc (wide (inl x)) (wide (inr y)) (wide (inr z)) = absurd (bc (y ∙ sym z))
-one-narrow ab ac bc (wide (inr x)) (wide (inl y)) (wide (inl z)) = absurd (bc (y ∙ sym z))
-one-narrow ab ac bc (wide (inr x)) (wide (inl y)) (wide (inr z)) = absurd (ac (x ∙ sym z))
+-- one of any three different rates is 600
+three-most : {a b c i j k : ℕ} → (a ≡ b → ⊥) → (a ≡ c → ⊥) → (b ≡ c → ⊥) → Width a i → Width b j → Width c k → i + j + k ≤ 11
+three-most ab ac bc short600 y z = omega (arith, width-most y, width-most z)
+three-most ab ac bc long2400 long2400 z = absurd (ab refl)
+three-most ab ac bc long1200 long1200 z = absurd (ab refl)
+three-most ab ac bc long2400 short600 z = omega (arith, width-most z)
+three-most ab ac bc long1200 short600 z = omega (arith, width-most z)
+three-most ab ac bc long2400 long1200 long2400 = absurd (ac refl)
+three-most ab ac bc long2400 long1200 long1200 = absurd (bc refl)
+three-most ab ac bc long2400 long1200 short600 = omega arith
+three-most ab ac bc long1200 long2400 long2400 = absurd (bc refl)
+three-most ab ac bc long1200 long2400 long1200 = absurd (ac refl)
+three-most ab ac bc long1200 long2400 short600 = omega arith
 
-rates-most : {a b c : ℕ} → IsRates a b c → length (rateText a) + length (moreText b) + length (moreText c) ≤ 13
-rates-most (one {a = a} ra) = omega (arith, text-most a, ap length (more-none 0 refl))
-rates-most (two {a = a} {b = b} ra rb ab) = omega (arith, text-most a, more-most b, ap length (more-none 0 refl))
+pub further-long : (r : ℕ) → isRate r ≡ true → length (furtherText r) ≡ 1 + length (decimal r)
+further-long r h = omega (arith, ap length (further-some r (λ e. omega (arith, rate-pos r h))))
+
+rates-most : {a b c : ℕ} → Rates a b c → length (decimal a) + length (furtherText b) + length (furtherText c) ≤ 13
+rates-most (one {a = a} ra) = omega (arith, width-most (width a ra), ap length (further-none 0 refl))
+rates-most (two {a = a} {b = b} ra rb ab) =
+    omega (arith, width-most (width a ra), width-most (width b rb), further-long b rb, ap length (further-none 0 refl))
 rates-most (three {a = a} {b = b} {c = c} ra rb rc ab ac bc) =
-    omega (arith, ap length (more-rate rb), ap length (more-rate rc), one-narrow ab ac bc (wide-or ra) (wide-or rb) (wide-or rc))
+    omega (arith, further-long b rb, further-long c rc, three-most ab ac bc (width a ra) (width b rb) (width c rc))
 
-pub text-31 : (s : Settings) → IsSettings s → length (textOf s) ≤ 31
-text-31 s i = omega (arith, text-length s, rates-most (i .rates), decimal-most (s .tcmax))
+pub text-most : (s : Settings) → IsSettings s → length (textOf s) ≤ 31
+text-most s i =
+    let p = settings-parts s i in
+    omega (arith, text-length s, rates-length (s .first) (s .second) (s .third), rates-most (rates-cases (s .first) (s .second) (s .third) (p .0)), tcmax-long (s .tcmax) (tcmax-range (s .tcmax) (p .1) .1))

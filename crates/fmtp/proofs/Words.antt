@@ -1,6 +1,6 @@
--- Fixed words at a text's start.
+-- Fixed words at a text's start, letter case folded: what `startsWith` tells of the text, and the loop that compares.
 use mathlib.Core.Path.{_≡_, refl, sym, ap, _∙_}
-use mathlib.Core.Bool.{Bool, true, false, cond, false≢true}
+use mathlib.Core.Bool.{Bool, true, false, false≢true, _&&_}
 use mathlib.Core.List.{List, [], _∷_, _++_, map}
 use Prim.Native.Nat.{ℕ, suc, _+_, _-_, _≤_, _<_}
 use native.Mathlib.Omega.{arith}
@@ -8,46 +8,44 @@ use native.Mathlib.Numerals.{add-one}
 use native.Mathlib.Decide.{ℕ-discrete}
 use lib.Dec.{eqb, ltb}
 use lib.ListN.{length, getD, take, drop, length-map, length-drop, length-append, List·getD-map}
-use lib.Seq.{drop-cons, drop-length, drop-drop}
+use lib.Seq.{drop-cons, drop-length}
 use mathlib.Core.Logic.{_⊎_, inl, inr}
 use borrow.Author.Tests.{lt-ltb, le-ltb, eq-eqb, ne-eqb, eqb-true, ltb-true}
 use Rattle.fmtp.specs.Text.{lower}
 use Rattle.fmtp.specs.Steps.{startsWith}
-use Rattle.fmtp.proofs.Flags.{below-or, both-true}
+use Rattle.fmtp.proofs.Flags.{below-or, both-true, every}
 
 -- ---- folding
 
+-- an octet is folded from itself, or from its capital if it is a small letter
+data Folded (x y : ℕ) : Type 0 where
+  kept : x ≡ y → Folded x y
+  lowered : 65 ≤ x → x ≤ 90 → x + 32 ≡ y → Folded x y
+
+folded : (x y : ℕ) → lower x ≡ y → Folded x y
+unfolding lower
+folded x y e = go (below-or x 65) (below-or 90 x)
+  where
+    go : (x < 65) ⊎ (65 ≤ x) → (90 < x) ⊎ (x ≤ 90) → Folded x y
+    go (inl a) b = kept (simp (lt-ltb x 65 a) at e)
+    go (inr a) (inl b) = kept (simp (le-ltb x 65 a, lt-ltb 90 x b) at e)
+    go (inr a) (inr b) = lowered a b (simp (le-ltb x 65 a, le-ltb 90 x b) at e)
+
 -- an octet that is no small letter is folded from itself alone
-pub fold-only : (x y : ℕ) → lower x ≡ y → y < 97 → x ≡ y
-unfolding lower
-fold-only x y e l = go (below-or x 65) (below-or 90 x)
+pub fold-only : (x y : ℕ) → lower x ≡ y → (y < 97) ⊎ (122 < y) → x ≡ y
+fold-only x y e l = go (folded x y e) l
   where
-    go : (x < 65) ⊎ (65 ≤ x) → (90 < x) ⊎ (x ≤ 90) → x ≡ y
-    go (inl a) b = simp (lt-ltb x 65 a) at e
-    go (inr a) (inl b) = simp (le-ltb x 65 a, lt-ltb 90 x b) at e
-    go (inr a) (inr b) =
-        let f : x + 32 ≡ y = simp (le-ltb x 65 a, le-ltb 90 x b) at e in absurd (omega arith)
+    go : Folded x y → (y < 97) ⊎ (122 < y) → x ≡ y
+    go (kept f) l = f
+    go (lowered a b f) (inl l) = absurd (omega arith)
+    go (lowered a b f) (inr l) = absurd (omega arith)
 
--- an octet above the small letters likewise
-fold-high : (x y : ℕ) → lower x ≡ y → 122 < y → x ≡ y
-unfolding lower
-fold-high x y e l = go (below-or x 65) (below-or 90 x)
-  where
-    go : (x < 65) ⊎ (65 ≤ x) → (90 < x) ⊎ (x ≤ 90) → x ≡ y
-    go (inl a) b = simp (lt-ltb x 65 a) at e
-    go (inr a) (inl b) = simp (le-ltb x 65 a, lt-ltb 90 x b) at e
-    go (inr a) (inr b) =
-        let f : x + 32 ≡ y = simp (le-ltb x 65 a, le-ltb 90 x b) at e in absurd (omega arith)
-
--- an octet that is folded from another is folded from its capital
 fold-capital : (x y : ℕ) → lower x ≡ y → (x ≡ y → ⊥) → x + 32 ≡ y
-unfolding lower
-fold-capital x y e n = go (below-or x 65) (below-or 90 x)
+fold-capital x y e n = go (folded x y e)
   where
-    go : (x < 65) ⊎ (65 ≤ x) → (90 < x) ⊎ (x ≤ 90) → x + 32 ≡ y
-    go (inl a) b = absurd (n (simp (lt-ltb x 65 a) at e))
-    go (inr a) (inl b) = absurd (n (simp (le-ltb x 65 a, lt-ltb 90 x b) at e))
-    go (inr a) (inr b) = simp (le-ltb x 65 a, le-ltb 90 x b) at e
+    go : Folded x y → x + 32 ≡ y
+    go (kept f) = absurd (n f)
+    go (lowered a b f) = f
 
 capital-folds : (x : ℕ) → 65 ≤ x → x ≤ 90 → lower x ≡ x + 32
 unfolding lower
@@ -57,11 +55,8 @@ module _ (x w : ℕ) where
   pub same-octet : lower w ≡ w → x ≡ w → true ≡ eqb (lower x) w
   same-octet l e = sym (eq-eqb (lower x) w (ap lower e ∙ l))
 
-  pub other-sign : (x ≡ w → ⊥) → w < 97 → false ≡ eqb (lower x) w
-  other-sign n l = sym (ne-eqb (lower x) w (λ e. n (fold-only x w e l)))
-
-  pub other-high : (x ≡ w → ⊥) → 122 < w → false ≡ eqb (lower x) w
-  other-high n l = sym (ne-eqb (lower x) w (λ e. n (fold-high x w e l)))
+  pub other-octet : (x ≡ w → ⊥) → (w < 97) ⊎ (122 < w) → false ≡ eqb (lower x) w
+  other-octet n l = sym (ne-eqb (lower x) w (λ e. n (fold-only x w e l)))
 
   pub capital-octet : (x ≡ w → ⊥) → 97 ≤ w → w ≤ 122 → eqb x (w - 32) ≡ eqb (lower x) w
   capital-octet n l h = go (ℕ-discrete x (w - 32))
@@ -70,7 +65,19 @@ module _ (x w : ℕ) where
       go (yes e) = eq-eqb x (w - 32) e ∙ sym (eq-eqb (lower x) w (capital-folds x (omega arith) (omega arith) ∙ omega arith))
       go (no e) = ne-eqb x (w - 32) e ∙ sym (ne-eqb (lower x) w (λ f. e (omega (arith, fold-capital x w f n))))
 
--- ---- the text behind a word
+getD-fold : (w : List ℕ) (i : ℕ) → getD (map lower w) i 0 ≡ lower (getD w i 0)
+unfolding lower
+getD-fold w i = List·getD-map lower w i 0
+
+-- an octet of a word that is its own folding
+pub word-octet : (w : List ℕ) (i : ℕ) → map lower w ≡ w → lower (getD w i 0) ≡ getD w i 0
+word-octet w i e = sym (getD-fold w i) ∙ ap (λ (l : List ℕ). getD l i 0) e
+
+-- ---- lengths
+
+pub empty-list : (t : List ℕ) → length t ≡ 0 → t ≡ []
+empty-list [] e = refl
+empty-list (x ∷ t) e = absurd (omega arith)
 
 starts-long : (w t : List ℕ) → startsWith w t ≡ true → length w ≤ length t
 starts-long [] t h = omega arith
@@ -85,13 +92,8 @@ starts-short w t l = go (startsWith w t) refl
     go true e = absurd (omega (arith, starts-long w t e))
     go false e = refl
 
-getD-fold : (w : List ℕ) (i : ℕ) → getD (map lower w) i 0 ≡ lower (getD w i 0)
-unfolding lower
-getD-fold w i = List·getD-map lower w i 0
-
--- an octet of a word that is its own folding
-pub word-octet : (w : List ℕ) (i : ℕ) → map lower w ≡ w → lower (getD w i 0) ≡ getD w i 0
-word-octet w i e = sym (getD-fold w i) ∙ ap (λ (l : List ℕ). getD l i 0) e
+pub starts-fit : (w t : List ℕ) (at : ℕ) → at ≤ length t → startsWith w (drop at t) ≡ true → at + length w ≤ length t
+starts-fit w t at l e = omega (arith, starts-long w (drop at t) e, length-drop at t)
 
 -- ---- the loop that compares
 
@@ -110,7 +112,7 @@ module _ (w t : List ℕ) (at : ℕ) where
       record { upto = omega arith; room = omega arith; rest = ap (λ (k : ℕ). startsWith w (drop k t)) z }
 
   module _ (i : ℕ) (h : Compared w t at i) (lt : i < length w) where
-    next : cond (eqb (lower (getD t (at + i) 0)) (getD w i 0)) (startsWith (drop (suc i) w) (drop (suc (at + i)) t)) false ≡ startsWith w (drop at t)
+    next : (eqb (lower (getD t (at + i) 0)) (getD w i 0) && startsWith (drop (suc i) w) (drop (suc (at + i)) t)) ≡ startsWith w (drop at t)
     next =
         let lt₂ : at + i < length t = omega (arith, h .room) in
         rw (drop-cons w i 0 lt, drop-cons t (at + i) 0 lt₂) at (h .rest)
@@ -128,20 +130,20 @@ module _ (w t : List ℕ) (at : ℕ) where
       let e : i ≡ length w = omega (arith, h .upto) in
       rw (e, drop-length w) at (h .rest)
 
--- ---- what a word at the start tells
+-- ---- what a word at the start tells of the text, and what a text tells of a word
 
--- no octet of the word is a small letter
-abbrev letterless : List ℕ → Bool
-letterless [] = true
-letterless (x ∷ w) = cond (ltb x 97) (letterless w) false
+-- no small letter
+abbrev pub isSign : ℕ → Bool
+isSign x = ltb x 97
 
-pub starts-exact : (w t : List ℕ) → letterless w ≡ true → startsWith w t ≡ true → t ≡ w ++ drop (length w) t
+-- a word without small letters stands in the text as it is
+pub starts-exact : (w t : List ℕ) → every isSign w ≡ true → startsWith w t ≡ true → t ≡ w ++ drop (length w) t
 starts-exact [] t p h = refl
 starts-exact (x ∷ w) [] p h = absurd (false≢true h)
 starts-exact (x ∷ w) (y ∷ t) p h =
-    let q = both-true (ltb x 97) (letterless w) p in
+    let q = both-true (ltb x 97) (every isSign w) p in
     let r = both-true (eqb (lower y) x) (startsWith w t) h in
-    let e : y ≡ x = fold-only y x (eqb-true (lower y) x (r .0)) (ltb-true x 97 (q .0)) in
+    let e : y ≡ x = fold-only y x (eqb-true (lower y) x (r .0)) (inl (ltb-true x 97 (q .0))) in
     let f : t ≡ w ++ drop (length w) t = starts-exact w t (q .1) (r .1) in
     cc
 
@@ -154,13 +156,13 @@ starts-spelled (x ∷ w) (y ∷ t) h =
     let f : map lower (take (length w) t) ≡ w = starts-spelled w t (r .1) in
     cc
 
-starts-self : (s rest : List ℕ) → startsWith (map lower s) (s ++ rest) ≡ true
-starts-self [] rest = refl
-starts-self (x ∷ s) rest = simp (eq-eqb (lower x) (lower x) refl) (starts-self s rest)
-
 -- a spelling of the word at the text's start
 pub starts-folded : (w s rest : List ℕ) → map lower s ≡ w → startsWith w (s ++ rest) ≡ true
-starts-folded w s rest e = rw e at (starts-self s rest)
+starts-folded w s rest e = rw e at (self s)
+  where
+    self : (s : List ℕ) → startsWith (map lower s) (s ++ rest) ≡ true
+    self [] = refl
+    self (x ∷ s) = simp (eq-eqb (lower x) (lower x) refl) (self s)
 
 pub starts-other : (x : ℕ) (w s rest : List ℕ) (y : ℕ) (v : List ℕ) → map lower s ≡ y ∷ v → (y ≡ x → ⊥) → startsWith (x ∷ w) (s ++ rest) ≡ false
 starts-other x w [] rest y v e n = let z : _≡_ {A = ℕ} 0 1 = cc in absurd (omega arith)
@@ -183,14 +185,6 @@ starts-both (x ∷ v) w (y ∷ t) h =
 pub map-append : (v w : List ℕ) → map lower (v ++ w) ≡ map lower v ++ map lower w
 map-append [] w = refl
 map-append (x ∷ v) w = ap (λ (l : List ℕ). lower x ∷ l) (map-append v w)
-
--- ---- from an index on
-
-pub drop-on : (at k : ℕ) (t : List ℕ) → drop k (drop at t) ≡ drop (at + k) t
-drop-on at k t = drop-drop k at t
-
-pub starts-fit : (w t : List ℕ) (at : ℕ) → at ≤ length t → startsWith w (drop at t) ≡ true → at + length w ≤ length t
-starts-fit w t at l e = omega (arith, starts-long w (drop at t) e, length-drop at t)
 
 -- a list that the text starts with lies in it
 pub split-fits : (a t : List ℕ) (at : ℕ) → at ≤ length t → drop at t ≡ a ++ drop (length a) (drop at t) → at + length a ≤ length t

@@ -1,53 +1,100 @@
--- The text that is written.
-use mathlib.Core.Path.{_≡_, refl, ap, _∙_}
+-- The parts of a text stored one behind another, and the writer's promise.
+use mathlib.Core.Path.{_≡_, refl, sym, ap, _∙_}
 use mathlib.Core.Bool.{Bool, true, false, not}
-use borrow.Author.Tests.{not-true, not-false}
 use mathlib.Core.List.{List, [], _∷_, _++_}
-use Prim.Native.Nat.{ℕ, _+_, _≤_, _<_}
+use Prim.Native.Nat.{ℕ, _+_, _/_, _%_, _≤_, _<_}
 use native.Mathlib.Omega.{arith}
 use lib.ListN.{length, drop}
 use lib.Seq.{sets-eq}
+use borrow.Author.Tests.{not-true, not-false, lt-ltb, le-ltb}
+use Rattle.refusal.specs.Numbers.{wrongSettings, octetsTooShort}
+use Rattle.refusal.specs.Report.{Report, accepted, refusedWith, refusal, filled}
 use Rattle.fmtp.specs.declared.Settings.{Settings}
-use Rattle.fmtp.specs.Text.{bitrateName, tcmaxName, equals, semicolon, ratesText, decimal}
-use Rattle.refusal.specs.Numbers.{wrongSettings, shortBuffer}
 use Rattle.fmtp.specs.declared.Written.{Written}
-use Rattle.fmtp.specs.declared.Written.the-variants.{Octets}
-use Rattle.fmtp.specs.Settings.{IsSettings, Decides}
-use Rattle.fmtp.specs.Writer.{textOf, MayBeWritten, writeReported, Writes, wrong, short, whole}
-use Rattle.fmtp.specs.Steps.{Put, failing}
-use Rattle.fmtp.proofs.SettingsLaws.{decided-true, decided-false}
-use Rattle.fmtp.proofs.TextLaws.{written-means, text-31}
-use Rattle.fmtp.proofs.Stores.{put-both}
+use Rattle.fmtp.specs.declared.Written.the-variants.{Octets, Refused}
+use Rattle.fmtp.specs.Settings.{IsSettings}
+use Rattle.fmtp.specs.Text.{bitrateName, tcmaxName, equals, semicolon, digits, decimal, ratesText, textOf}
+use Rattle.fmtp.specs.Answers.{writtenReport, mayBeWritten, writing, Writes}
+use Rattle.fmtp.specs.Steps.{Stored}
+use Rattle.fmtp.proofs.Decimals.{decimal-more}
+use Rattle.fmtp.proofs.Stores.{store-as, store-both}
 
--- the text, put in its parts
-pub text-put : (s : Settings) {l₀ l₁ l₂ l₃ l₄ : List ℕ} {i₁ i₂ i₃ i₄ : ℕ} → Put l₀ 0 (bitrateName ++ (equals ∷ [])) i₁ l₁ → Put l₁ i₁ (ratesText (s .first) (s .second) (s .third)) i₂ l₂
-    → Put l₂ i₂ (semicolon ∷ (tcmaxName ++ (equals ∷ []))) i₃ l₃ → Put l₃ i₃ (decimal (s .tcmax)) i₄ l₄ → Put l₀ 0 (textOf s) i₄ l₄
+-- ---- rates and numbers
+
+digits-2400 : decimal 2400 ≡ 50 ∷ 52 ∷ 48 ∷ 48 ∷ []
+unfolding decimal digits
+digits-2400 = refl
+
+digits-1200 : decimal 1200 ≡ 49 ∷ 50 ∷ 48 ∷ 48 ∷ []
+unfolding decimal digits
+digits-1200 = refl
+
+digits-600 : decimal 600 ≡ 54 ∷ 48 ∷ 48 ∷ []
+unfolding decimal digits
+digits-600 = refl
+
+pub text-2400 : (r : ℕ) → r ≡ 2400 → decimal r ≡ 50 ∷ 52 ∷ 48 ∷ 48 ∷ []
+text-2400 r e = ap decimal e ∙ digits-2400
+
+pub text-1200 : (r : ℕ) → r ≡ 1200 → decimal r ≡ 49 ∷ 50 ∷ 48 ∷ 48 ∷ []
+text-1200 r e = ap decimal e ∙ digits-1200
+
+pub text-600 : (r : ℕ) → r ≡ 600 → decimal r ≡ 54 ∷ 48 ∷ 48 ∷ []
+text-600 r e = ap decimal e ∙ digits-600
+
+-- a number's last digit behind its others
+pub number-stored : {l₀ l₁ l₂ : List ℕ} {at i j : ℕ} (n : ℕ) → 10 ≤ n → Stored l₀ at (decimal (n / 10)) i l₁ → Stored l₁ i ((48 + n % 10) ∷ []) j l₂ → Stored l₀ at (decimal n) j l₂
+number-stored n h p q = store-as (decimal-more n h) (store-both (decimal (n / 10)) ((48 + n % 10) ∷ []) p q)
+
+-- the text, stored in its parts
+pub text-stored : (s : Settings) {l₀ l₁ l₂ l₃ l₄ : List ℕ} {i₁ i₂ i₃ i₄ : ℕ} → Stored l₀ 0 (bitrateName ++ (equals ∷ [])) i₁ l₁ → Stored l₁ i₁ (ratesText (s .first) (s .second) (s .third)) i₂ l₂
+    → Stored l₂ i₂ (semicolon ∷ (tcmaxName ++ (equals ∷ []))) i₃ l₃ → Stored l₃ i₃ (decimal (s .tcmax)) i₄ l₄ → Stored l₀ 0 (textOf s) i₄ l₄
 unfolding textOf
-text-put s p q r d =
-    put-both (bitrateName ++ (equals ∷ ratesText (s .first) (s .second) (s .third))) (semicolon ∷ (tcmaxName ++ (equals ∷ decimal (s .tcmax))))
-    (put-both (bitrateName ++ (equals ∷ [])) (ratesText (s .first) (s .second) (s .third)) p q)
-    (put-both (semicolon ∷ (tcmaxName ++ (equals ∷ []))) (decimal (s .tcmax)) r d)
+text-stored s p q r d =
+    store-both (bitrateName ++ (equals ∷ ratesText (s .first) (s .second) (s .third))) (semicolon ∷ (tcmaxName ++ (equals ∷ decimal (s .tcmax))))
+    (store-both (bitrateName ++ (equals ∷ [])) (ratesText (s .first) (s .second) (s .third)) p q)
+    (store-both (semicolon ∷ (tcmaxName ++ (equals ∷ []))) (decimal (s .tcmax)) r d)
 
 -- ---- the writer's cases
 
-pub writable-settings : (s : Settings) → MayBeWritten s → IsSettings s
-writable-settings s m = m
+pub writable : (s : Settings) → mayBeWritten s ≡ true → IsSettings s
+unfolding mayBeWritten
+writable s h = h
 
-pub writable-known : (s : Settings) {b : Bool} → Decides (MayBeWritten s) b → not b ≡ false → IsSettings s
-writable-known s {b} d n = writable-settings s (decided-true d (not-false b n))
+module _ (s : Settings) (room : ℕ) where
+  pub writing-wrong : mayBeWritten s ≡ false → writing s room ≡ refusedWith 0 (refusal wrongSettings 0)
+  unfolding writing
+  writing-wrong h = simp h
 
-module _ (s : Settings) (before : List ℕ) {r : Written} where
-  pub write-wrong : {b : Bool} → Decides (MayBeWritten s) b → not b ≡ true → r ≡ failing wrongSettings 0 → Writes s before r before
-  write-wrong {b} d n e = wrong (decided-false d (not-true b n)) (ap writeReported e) refl
+  module _ (h : mayBeWritten s ≡ true) where
+    pub writing-short : room < length (textOf s) → writing s room ≡ refusedWith 0 (refusal octetsTooShort (length (textOf s)))
+    unfolding writing
+    writing-short l = simp (h, lt-ltb room (length (textOf s)) l)
 
-  module _ {b : Bool} (d : Decides (MayBeWritten s) b) (n : not b ≡ false) {k : ℕ} (long : k ≡ length (textOf s)) where
-    pub write-short : length before < k → r ≡ failing shortBuffer k → Writes s before r before
-    write-short l e = short (decided-true d (not-false b n)) (omega arith) (ap writeReported e ∙ rw long) refl
+    pub writing-whole : length (textOf s) ≤ room → writing s room ≡ accepted (length (textOf s))
+    unfolding writing
+    writing-whole l = simp (h, le-ltb room (length (textOf s)) l)
 
-    pub write-whole : k ≤ length before → r ≡ Octets k → {i : ℕ} {after : List ℕ} → Put before 0 (textOf s) i after → Writes s before r after
-    write-whole l e p =
-        let f : 0 + length (textOf s) ≡ length (textOf s) = omega arith in
-        let m : MayBeWritten s = decided-true d (not-false b n) in
-        whole m (omega arith) (ap writeReported e ∙ rw long)
-        (p .stored ∙ sets-eq (textOf s) before 0 (omega arith) ∙ ap (λ (j : ℕ). textOf s ++ drop j before) f)
-        (written-means s (writable-settings s m)) (text-31 s (writable-settings s m))
+-- the answer that a definition gives is the answer, and what it leaves is left
+promise : {s : Settings} {before after : List ℕ} {r : Written} (x : Report ℕ) → writing s (length before) ≡ x → writtenReport r ≡ x → after ≡ filled x (textOf s) before → Writes s before after r
+promise x e f g = record { answer = f ∙ sym e; octets = rw e g }
+
+module _ (s : Settings) (before : List ℕ) where
+  pub write-wrong : {b : Bool} → b ≡ mayBeWritten s → not b ≡ true → Writes s before before (Refused (refusal wrongSettings 0))
+  unfolding filled
+  write-wrong {b} d n = promise (refusedWith 0 (refusal wrongSettings 0)) (writing-wrong s (length before) (sym d ∙ not-true b n)) refl refl
+
+  module _ {b : Bool} (d : b ≡ mayBeWritten s) (n : not b ≡ false) {k : ℕ} (long : k ≡ length (textOf s)) where
+    may : mayBeWritten s ≡ true
+    may = sym d ∙ not-false b n
+
+    pub write-short : length before < k → Writes s before before (Refused (refusal octetsTooShort k))
+    unfolding filled
+    write-short l = promise (refusedWith 0 (refusal octetsTooShort k)) (writing-short s (length before) may (omega arith) ∙ rw long) refl refl
+
+    pub write-whole : k ≤ length before → {i : ℕ} {after : List ℕ} → Stored before 0 (textOf s) i after → Writes s before after (Octets k)
+    unfolding filled
+    write-whole l p =
+        let f : 0 + length (textOf s) ≡ k = omega arith in
+        promise (accepted k) (writing-whole s (length before) may (omega arith) ∙ rw long) refl
+        (p .octets ∙ sets-eq (textOf s) before 0 (omega arith) ∙ ap (λ (j : ℕ). textOf s ++ drop j before) f)

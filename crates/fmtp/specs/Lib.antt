@@ -1,5 +1,6 @@
 pub mod Settings
 pub mod Text
-pub mod Reader
-pub mod Writer
+pub mod Meaning
+pub mod Means
+pub mod Answers
 pub mod Steps

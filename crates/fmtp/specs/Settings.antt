@@ -1,32 +1,43 @@
--- Document 01, "The setting text": settings.
+-- Settings: docs/FORMAT.md, "Setting text".
 use mathlib.Core.Path.{_≡_}
-use mathlib.Core.Bool.{Bool, true, false}
-use Prim.Native.Nat.{ℕ, _≤_}
+use mathlib.Core.Bool.{Bool, true, false, not, _&&_, _||_}
+use mathlib.Core.List.{List, [], _∷_}
+use Prim.Native.Nat.{ℕ}
+use lib.Dec.{eqb, leb}
 use Rattle.fmtp.specs.declared.Settings.{Settings}
 
+-- a number stands in a list
+abbrev pub isIn : ℕ → List ℕ → Bool
+isIn x [] = false
+isIn x (y ∷ ys) = eqb x y || isIn x ys
+
 -- "rates out of 2400, 1200, 600"
-pub data IsRate : ℕ → Type 0 where
-  bps2400 : IsRate 2400
-  bps1200 : IsRate 1200
-  bps600 : IsRate 600
+abbrev pub rates : List ℕ
+rates = 2400 ∷ 1200 ∷ 600 ∷ []
+
+-- a number is one of the rates
+unfoldable pub isRate : ℕ → Bool
+isRate r = isIn r rates
 
 -- "one to three different rates in order, unused places 0"
-pub data IsRates : ℕ → ℕ → ℕ → Type 0 where
-  one : {a : ℕ} → IsRate a → IsRates a 0 0
-  two : {a b : ℕ} → IsRate a → IsRate b → (a ≡ b → ⊥) → IsRates a b 0
-  three : {a b c : ℕ} → IsRate a → IsRate b → IsRate c → (a ≡ b → ⊥) → (a ≡ c → ⊥) → (b ≡ c → ⊥) → IsRates a b c
+unfoldable pub areRates : ℕ → ℕ → ℕ → Bool
+areRates a b c =
+    (isRate a && eqb b 0 && eqb c 0)
+    || (isRate a && isRate b && not (eqb a b) && eqb c 0)
+    || (isRate a && isRate b && isRate c && not (eqb a b) && not (eqb a c) && not (eqb b c))
 
 -- "`tcmax=` takes 1 to 255"
-pub record IsTcmax (n : ℕ) : Type 0 where
-  pub least : 1 ≤ n
-  pub most : n ≤ 255
+unfoldable pub isTcmax : ℕ → Bool
+isTcmax n = leb 1 n && leb n 255
 
 -- "Settings are one to three different rates in order, unused places 0, and a tcmax"
-pub record IsSettings (s : Settings) : Type 0 where
-  pub rates : IsRates (s .first) (s .second) (s .third)
-  pub tcmax : IsTcmax (s .tcmax)
+unfoldable pub isSettings : Settings → Bool
+isSettings s = areRates (s .first) (s .second) (s .third) && isTcmax (s .tcmax)
 
--- a flag that says whether P holds, as `is_settings` answers of `IsSettings`
-pub data Decides (P : Type 0) : Bool → Type 0 where
-  holds : P → Decides P true
-  fails : (P → ⊥) → Decides P false
+-- the same as a fact, which theorems ask for
+abbrev pub IsSettings : Settings → Type 0
+IsSettings s = isSettings s ≡ true
+
+-- settings of the four numbers
+abbrev pub settingsOf : ℕ → ℕ → ℕ → ℕ → Settings
+settingsOf a b c n = record { first = a; second = b; third = c; tcmax = n }

@@ -6,9 +6,10 @@ use native.Mathlib.Numerals.{add-one}
 use native.Mathlib.Omega.{arith}
 use lib.ListN.{length, getD, drop, length-drop, drop-of-length-le}
 use lib.Seq.{drop-cons}
-use Rattle.leb128.specs.Number.{stepOf, Head, number, none, headFrom, headOf, foundOf, foundAt}
+use Rattle.leb128.specs.Number.{stepOf, Head, number, none, headFrom, headOf, foundOf, foundAt, foundValues, Finds}
 use Rattle.leb128.specs.declared.Group.{Group}
 use Rattle.leb128.specs.declared.Group.the-variants.{More, Last, Bad}
+use Rattle.leb128.specs.declared.Found.{Found}
 use Rattle.leb128.specs.declared.Found.the-variants as found
 use Rattle.leb128.proofs.Steps.{more-few}
 
@@ -56,3 +57,7 @@ module _ (most bound : ℕ) (xs : List ℕ) (a : ℕ) where
     pub heads-bad : g ≡ Bad → found.Bad ≡ foundAt most bound xs a
     unfolding after
     heads-bad q = ap (foundOf (length xs)) (sym (on Bad q))
+
+-- the promise of what stands at an index, from the answer
+pub finds : (most bound : ℕ) (xs : List ℕ) (i : ℕ) {r : Found} → r ≡ foundAt most bound xs i → Finds most bound xs i r
+finds most bound xs i e = record { answer = e; values = ap foundValues e }

@@ -1,5 +1,5 @@
 -- Laws of one step: what each case comes to, and that its numbers fit.
-use mathlib.Core.Path.{_≡_, refl, subst}
+use mathlib.Core.Path.{_≡_, refl, subst, ap}
 use mathlib.Core.Logic.{_⊎_, inl, inr}
 use mathlib.Core.Bool.{Bool, true, false, cond, _&&_}
 use Prim.Native.Nat.{ℕ, _+_, _-_, _*_, _^_, _≤_, _<_}
@@ -9,7 +9,7 @@ use native.Mathlib.Numerals.{add-one}
 use native.Mathlib.Omega.{arith}
 use lib.Dec.{ltb, eqb}
 use borrow.Author.Tests.{lt-ltb, le-ltb, eq-eqb, ne-eqb, ltb-false}
-use Rattle.leb128.specs.Number.{Partial, lastGroup, moreGroups, stepOf}
+use Rattle.leb128.specs.Number.{Partial, lastGroup, moreGroups, stepOf, groupValues, Steps}
 use Rattle.leb128.specs.declared.Group.{Group}
 use Rattle.leb128.specs.declared.Group.the-variants.{More, Last, Bad}
 
@@ -140,3 +140,7 @@ last-most most bound v k x n e = subst (Ranged bound k) e (step-ranged most boun
 
 pub more-few : (most bound v k x w : ℕ) → stepOf most bound v k x ≡ More w → k < 9
 more-few most bound v k x w e = subst (Ranged bound k) e (step-ranged most bound v k x)
+
+-- the promise of a step, from its answer
+pub steps : (most bound v k x : ℕ) {r : Group} → r ≡ stepOf most bound v k x → Steps most bound v k x r
+steps most bound v k x e = record { answer = e; values = ap groupValues e }

@@ -1,4 +1,5 @@
--- Numbers in groups of seven bits (document 01, "The listing"): a number's octets said forwards, and one step of reading them.
+-- Numbers in groups of seven bits (docs/FORMAT.md, "Listing"): a number's octets said forwards, and one step of reading them.
+use mathlib.Core.Path.{_≡_}
 use mathlib.Core.Bool.{cond, _&&_}
 use mathlib.Core.List.{List, [], _∷_}
 use Prim.Native.Nat.{ℕ, zero, suc, _+_, _-_, _*_, _/_, _%_, _^_, _≤_, _<_}
@@ -64,3 +65,34 @@ foundOf n none = found.Bad
 -- what stands at the index i of the octets xs
 abbrev pub foundAt : ℕ → ℕ → List ℕ → ℕ → Found
 foundAt most bound xs i = foundOf (length xs) (headOf most bound (drop i xs))
+
+-- ---- what is promised
+
+-- the values of an answer: how many numbers are whole, 1 or 0; the number, or the value of the groups so far; the index behind it. All 0 where no
+-- number can stand there: what that is refused with is for the caller to say
+pub record Values : Type 0 where
+  pub whole : ℕ
+  pub value : ℕ
+  pub next : ℕ
+
+-- those of each case of a step's answer
+abbrev pub groupValues : Group → Values
+groupValues (More v) = record { whole = 0; value = v; next = 0 }
+groupValues (Last n) = record { whole = 1; value = n; next = 0 }
+groupValues Bad = record { whole = 0; value = 0; next = 0 }
+
+-- those of each case of what stands at an index
+abbrev pub foundValues : Found → Values
+foundValues (found.Number n i) = record { whole = 1; value = n; next = i }
+foundValues found.Short = record { whole = 0; value = 0; next = 0 }
+foundValues found.Bad = record { whole = 0; value = 0; next = 0 }
+
+-- what `step` promises of the octet x behind k groups of the value v
+pub record Steps (most bound v k x : ℕ) (r : Group) : Type 0 where
+  pub answer : r ≡ stepOf most bound v k x
+  pub values : groupValues r ≡ groupValues (stepOf most bound v k x)
+
+-- what `number_at` promises of the index i of the octets xs
+pub record Finds (most bound : ℕ) (xs : List ℕ) (i : ℕ) (r : Found) : Type 0 where
+  pub answer : r ≡ foundAt most bound xs i
+  pub values : foundValues r ≡ foundValues (foundAt most bound xs i)

@@ -1,7 +1,7 @@
 // Numbers in groups of seven bits, low group first, 128 meaning "more", shortest form (unsigned LEB128): one octet a step.
 ghost use mathlib.Core.Path.{_≡_};
 ghost use Prim.Native.Nat.{_^_, _≤_, _<_};
-ghost use Rattle.leb128.specs.Number.{Partial, moreGroups, lastGroup, stepOf, foundAt};
+ghost use Rattle.leb128.specs.Number.{Partial, moreGroups, lastGroup, Steps, Finds};
 
 // What an octet makes of the groups before it: a value so far, which more groups follow; the number; no number.
 pub enum Group {
@@ -65,7 +65,7 @@ fn last_group(value: u64, groups: u8, octet: u8, bound: u64) -> Group
 
 // The octet behind so many groups, which came to the value: at most `most` groups, and nine; a number of at most `bound`.
 pub fn step(value: u64, groups: u8, octet: u8, most: u8, bound: u64) -> Group
-    ensures { λ r. ⌜ r ≡ stepOf most bound value groups octet ⌝ }
+    ensures { λ r. ⌜ Steps most bound value groups octet r ⌝ }
 {
     if 9 <= groups {
         return Group::Bad;
@@ -91,7 +91,7 @@ pub enum Found {
 
 // The number at an index: at most `most` groups, and nine; at most `bound`.
 pub fn number_at(octets: &[u8], at: usize, most: u8, bound: u64) -> Found
-    ensures { λ r. ⌜ r ≡ foundAt most bound (now (octets .entry)) at ⌝ }
+    ensures { λ r. ⌜ Finds most bound (now (octets .entry)) at r ⌝ }
 {
     let mut value: u64 = 0;
     let mut groups: u8 = 0;

@@ -1,92 +1,33 @@
-// Lists the payloads of the files that its arguments name, in order, as one input; of standard input where there are no
-// arguments. The argument `-` names standard input, and `--next` ends a listing and begins another. Where a read or a write
-// fails, it says so on standard error and stops: the lines before it stand, and no last line follows them.
-ghost use Prim.Native.Nat.{_≤_};
-ghost use lib.ListN.{length};
+// Lists recordings of payloads. Each file that an argument names is a recording of its own, and so is standard input, which `-` names and
+// which is listed where no argument is given. Before each of several listings a line `==> FILE <==` names it. A file that cannot be opened
+// or read is said on standard error, no last line follows, and the next one is listed. Where standard output takes no more, the run ends.
+use libc::STDERR_FILENO;
 use libc::STDIN_FILENO;
 use libc::STDOUT_FILENO;
-use listing::Closed;
-use listing::Listed;
-use listing::Progress;
+use listing::Phase;
 use listing::State;
 
-// The state behind a part of the input, and how many octets of it were taken: 0 where the run stops.
-struct Part {
-    state: State,
-    taken: usize,
+// What reading a block came to: it is listed, and the recording goes on; the recording is at its end, or behind a bad length; the read
+// failed; standard output takes no more.
+enum Read {
+    More(State),
+    End(State),
+    Failed,
+    Stopped,
 }
 
-// The state behind some input, and whether the run goes on.
-struct Run {
-    state: State,
-    is_on: bool,
-}
+// ---- a recording
 
-// The state behind a block, whether the run goes on, and whether there may be more to read.
-struct Read {
-    state: State,
-    is_on: bool,
-    is_more: bool,
-}
-
-// Writes the front of out, and answers whether that went well.
-fn write_front(out: &[u8], n: usize) -> bool {
-    if out.len() < n {
-        return false;
+// Behind a bad length nothing is listed, so nothing more is read.
+fn behind(state: State) -> Read {
+    let phase = state.phase;
+    if let Phase::BadLength = phase {
+        return Read::End(state);
     }
-    let is_written = io::write_all(STDOUT_FILENO, &out[..n]);
-    if !is_written {
-        os::fail(b"standard output");
-    }
-    is_written
+    Read::More(state)
 }
 
-// Writes the lines of a part of the input.
-fn write_lines(progress: Progress, out: &[u8]) -> Part
-    ensures { λ r. ⌜ r .taken ≤ progress .taken ⌝ }
-{
-    let state = progress.state;
-    if write_front(out, progress.written) {
-        return Part {
-            state,
-            taken: progress.taken,
-        };
-    }
-    Part { state, taken: 0 }
-}
-
-// Lists a part of the input, as far as there is room for its lines.
-fn list_part(state: State, input: &[u8], payload: &mut [u8], out: &mut [u8]) -> Part
-    ensures { λ r. ⌜ r .taken ≤ length (now (input .entry)) ⌝ }
-{
-    let listed = listing::list(state, input, payload, out);
-    match listed {
-        Listed::Went(progress) => write_lines(progress, out),
-        Listed::Refused(_) => Part { state, taken: 0 },
-    }
-}
-
-// Lists a block of the input.
-fn list_block(state: State, input: &[u8], payload: &mut [u8], out: &mut [u8]) -> Run {
-    let mut state = state;
-    let mut from: usize = 0;
-    while from < input.len() {
-        let part = list_part(state, &input[from..], payload, out);
-        let next = part.state;
-        let taken = part.taken;
-        state = next;
-        if taken == 0 {
-            return Run {
-                state,
-                is_on: false,
-            };
-        }
-        from += taken;
-    }
-    Run { state, is_on: true }
-}
-
-// Reads a block and lists it. The run stops where nothing more is read.
+// Reads a block of a recording and lists it.
 fn list_some(
     state: State,
     fd: i32,
@@ -98,182 +39,211 @@ fn list_some(
     let got = libc::read(fd, input);
     if got < 0 {
         os::fail(name);
-        return Read {
-            state,
-            is_on: false,
-            is_more: false,
-        };
+        return Read::Failed;
     }
     if got == 0 {
-        return Read {
-            state,
-            is_on: true,
-            is_more: false,
-        };
+        return Read::End(state);
     }
     let n = io::count(got, input);
-    let run = list_block(state, &input[..n], payload, out);
-    let next = run.state;
-    Read {
-        state: next,
-        is_on: run.is_on,
-        is_more: run.is_on,
+    let block = listing_io::list_block(state, &input[..n], payload, out);
+    if !block.is_written {
+        return Read::Stopped;
     }
+    let next = block.state;
+    behind(next)
 }
 
-// Lists all that a descriptor gives. A proved loop has to end, and nothing says that an input does: so it counts its turns
-// down, from a number that no run uses up.
+// Lists the recording that a descriptor gives, and answers whether standard output takes more. A proved loop has to end, and nothing says
+// that an input does: so it counts its turns down, from a number that no run uses up.
 fn list_descriptor(
-    state: State,
     fd: i32,
     name: &[u8],
     input: &mut [u8],
     payload: &mut [u8],
     out: &mut [u8],
-) -> Run {
-    let mut state = state;
+) -> bool {
+    let mut state = listing::start();
     let mut turns = u64::MAX;
     while turns > 0 {
         let read = list_some(state, fd, name, input, payload, out);
-        let next = read.state;
-        state = next;
-        if !read.is_more {
-            return Run {
-                state,
-                is_on: read.is_on,
-            };
+        match read {
+            Read::More(next) => {
+                state = next;
+            }
+            Read::End(last) => {
+                return listing_io::write_last(last, out);
+            }
+            Read::Failed => {
+                return true;
+            }
+            Read::Stopped => {
+                return false;
+            }
         }
         turns -= 1;
     }
-    Run {
-        state,
-        is_on: false,
-    }
+    false
 }
 
-// Lists a file.
+// ---- the arguments
+
+// Writes some text to standard output, and answers whether that went well.
+fn say(text: &[u8]) -> bool {
+    let is_written = io::write_all(STDOUT_FILENO, text);
+    if !is_written {
+        os::fail(b"standard output");
+    }
+    is_written
+}
+
+// Names the recording that is listed next, where there are several.
+fn say_name(name: &[u8], is_one: bool) -> bool {
+    if is_one {
+        return true;
+    }
+    if !say(b"==> ") {
+        return false;
+    }
+    if !say(name) {
+        return false;
+    }
+    say(b" <==\n")
+}
+
+// Lists the recording in a file, and answers whether standard output takes more.
 fn list_file(
-    state: State,
     name: &[u8],
+    is_one: bool,
     input: &mut [u8],
     payload: &mut [u8],
     out: &mut [u8],
-) -> Run {
+) -> bool {
     let fd = os::open_read(name);
     if fd < 0 {
         os::fail(name);
-        return Run {
-            state,
-            is_on: false,
-        };
+        return true;
     }
-    let run = list_descriptor(state, fd, name, input, payload, out);
-    libc::close(fd);
-    run
-}
-
-// Writes the last line, and answers whether that went well.
-fn write_last(state: State, out: &mut [u8]) -> bool {
-    let closed = listing::close(state, out);
-    match closed {
-        Closed::Wrote(n) => write_front(out, n),
-        Closed::Refused(_) => false,
-    }
-}
-
-fn is_same(a: &[u8], b: &[u8]) -> bool {
-    if a.len() != b.len() {
+    if !say_name(name, is_one) {
         return false;
     }
-    let mut i: usize = 0;
-    while i < a.len() {
-        if a[i] != b[i] {
-            return false;
-        }
-        i += 1;
-    }
-    true
+    let is_on = list_descriptor(fd, name, input, payload, out);
+    libc::close(fd);
+    is_on
 }
 
-// Does what a word among the arguments says.
-fn follow_word(
-    state: State,
-    word: &[u8],
-    input: &mut [u8],
-    payload: &mut [u8],
-    out: &mut [u8],
-) -> Run {
-    if is_same(word, b"-") {
-        return list_descriptor(state, STDIN_FILENO, b"standard input", input, payload, out);
+// Lists the recording that standard input gives, and answers whether standard output takes more.
+fn list_standard_input(is_one: bool, input: &mut [u8], payload: &mut [u8], out: &mut [u8]) -> bool {
+    if !say_name(b"standard input", is_one) {
+        return false;
     }
-    if is_same(word, b"--next") {
-        return Run {
-            state: listing::start(),
-            is_on: write_last(state, out),
-        };
-    }
-    list_file(state, word, input, payload, out)
+    list_descriptor(STDIN_FILENO, b"standard input", input, payload, out)
 }
 
-// Does what an argument says.
-fn follow_argument(
-    state: State,
+// Lists the recording that an argument names, and answers whether standard output takes more.
+fn list_argument(
     argument: usize,
+    is_one: bool,
     input: &mut [u8],
     payload: &mut [u8],
     out: &mut [u8],
-) -> Run {
+) -> bool {
     let mut word = io::buffer();
     let n = os::arg(argument, &mut word);
     if os::errno() != 0 {
         os::fail(b"argument");
-        return Run {
-            state,
-            is_on: false,
-        };
+        return true;
     }
-    follow_word(state, &word[..n], input, payload, out)
+    if check::same(&word[..n], b"-") {
+        return list_standard_input(is_one, input, payload, out);
+    }
+    list_file(&word[..n], is_one, input, payload, out)
 }
 
-// Does what the arguments say, one after another.
-fn follow_arguments(
-    state: State,
-    count: usize,
-    input: &mut [u8],
-    payload: &mut [u8],
-    out: &mut [u8],
-) -> Run {
-    let mut state = state;
+// Lists the recordings that the arguments name, one after another.
+fn list_arguments(count: usize, input: &mut [u8], payload: &mut [u8], out: &mut [u8]) {
     let mut i: usize = 1;
     while i < count {
-        let run = follow_argument(state, i, input, payload, out);
-        let next = run.state;
-        state = next;
-        if !run.is_on {
-            return run;
+        if !list_argument(i, count == 2, input, payload, out) {
+            return;
         }
         i += 1;
     }
-    Run { state, is_on: true }
 }
 
-// Lists all of the input.
-fn list_input(input: &mut [u8], payload: &mut [u8], out: &mut [u8]) -> Run {
-    let count = os::arg_count();
-    let state = listing::start();
-    if count < 2 {
-        return list_descriptor(state, STDIN_FILENO, b"standard input", input, payload, out);
+// ---- options
+
+fn say_help() -> bool {
+    say(
+        b"Usage: list [FILE]...
+Lists the payloads of each FILE, a recording of payloads, each behind its length.
+Without FILE, or where FILE is -, it lists standard input.
+Before each of several listings a line ==> FILE <== names it.
+
+  --help     says this, and lists nothing
+  --version  says the version, and lists nothing
+",
+    )
+}
+
+// A word that begins with `--` is an option.
+fn is_option(word: &[u8]) -> bool {
+    if word.len() < 2 {
+        return false;
     }
-    follow_arguments(state, count, input, payload, out)
+    if word[0] != b'-' {
+        return false;
+    }
+    word[1] == b'-'
+}
+
+// Does what an option asks.
+fn follow_option(word: &[u8]) {
+    if check::same(word, b"--help") {
+        say_help();
+        return;
+    }
+    if check::same(word, b"--version") {
+        say(b"list 0.1.0\n");
+        return;
+    }
+    io::write_all(STDERR_FILENO, word);
+    io::write_all(STDERR_FILENO, b": unknown option, see --help\n");
+}
+
+// Does what an argument asks, where it is an option, and answers whether it is one.
+fn follow_argument(argument: usize) -> bool {
+    let mut word = io::buffer();
+    let n = os::arg(argument, &mut word);
+    if !is_option(&word[..n]) {
+        return false;
+    }
+    follow_option(&word[..n]);
+    true
+}
+
+// Does what the first option among the arguments asks, and answers whether there is one.
+fn follow_options(count: usize) -> bool {
+    let mut i: usize = 1;
+    while i < count {
+        if follow_argument(i) {
+            return true;
+        }
+        i += 1;
+    }
+    false
 }
 
 fn main() {
+    let count = os::arg_count();
+    if follow_options(count) {
+        return;
+    }
     let mut input = io::large_buffer();
     let mut payload = [0u8; 1400];
     let mut out = io::large_buffer();
-    let run = list_input(&mut input, &mut payload, &mut out);
-    if run.is_on {
-        let state = run.state;
-        write_last(state, &mut out);
+    if count < 2 {
+        list_standard_input(true, &mut input, &mut payload, &mut out);
+        return;
     }
+    list_arguments(count, &mut input, &mut payload, &mut out);
 }

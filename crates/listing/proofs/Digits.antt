@@ -1,16 +1,14 @@
--- Laws of decimal digits.
+-- Laws of decimal digits: one digit or more, how many there are, and the number that they stand for.
 use mathlib.Core.Path.{_≡_, refl, sym, ap, _∙_}
 use mathlib.Core.Logic.{_⊎_, inl, inr}
-use mathlib.Core.List.{List, [], _∷_, _++_, append-assoc}
+use mathlib.Core.List.{List, [], _∷_, _++_}
 use Prim.Native.Nat.{ℕ, zero, suc, _+_, _-_, _*_, _/_, _%_, _^_, _≤_, _<_}
 use native.Mathlib.Nat.{pow-suc}
 use native.Mathlib.Omega.{arith}
-use lib.ListN.{length, set, length-append, length-set}
+use lib.ListN.{length, length-append}
 use borrow.Author.Tests.{lt-ltb, le-ltb}
-use Rattle.payload.specs.Filling.{put}
-use Rattle.leb128.proofs.Steps.{below-or}
-use Rattle.listing.specs.Line.{digits, decimal, pair, four}
-use Rattle.listing.proofs.Puts.{put-one, put-put}
+use Rattle.octets.proofs.Order.{below-or}
+use Rattle.listing.specs.Line.{digits, decimal}
 
 pub digits-one : (k n : ℕ) → n < 10 → digits (suc k) n ≡ (48 + n) ∷ []
 digits-one k n h = simp (lt-ltb n 10 h)
@@ -38,57 +36,21 @@ digits-enough (suc k) n h = go (λ l. digits-enough k (n / 10) l) (below-or n 10
         ∙ ap (λ (d : List ℕ). d ++ ((48 + n % 10) ∷ [])) (ih (omega (arith, pow-suc 10 (suc k))))
         ∙ sym (digits-more (suc (suc k)) n l)
 
-pub decimal-one : (n : ℕ) → n < 10 → decimal n ≡ (48 + n) ∷ []
+pub decimal-one : (n : ℕ) → n < 10 → (48 + n) ∷ [] ≡ decimal n
 unfolding decimal
-decimal-one n h = digits-one 19 n h
+decimal-one n h = sym (digits-one 19 n h)
 
-pub decimal-more : (n : ℕ) → 10 ≤ n → n < 18446744073709551616 → decimal n ≡ decimal (n / 10) ++ ((48 + n % 10) ∷ [])
+pub decimal-more : (n : ℕ) → 10 ≤ n → n < 18446744073709551616 → decimal (n / 10) ++ ((48 + n % 10) ∷ []) ≡ decimal n
 unfolding decimal
-decimal-more n h l = digits-more 19 n h ∙ ap (λ (d : List ℕ). d ++ ((48 + n % 10) ∷ [])) (digits-enough 18 (n / 10) (omega arith))
+decimal-more n h l = sym (digits-more 19 n h ∙ ap (λ (d : List ℕ). d ++ ((48 + n % 10) ∷ [])) (digits-enough 18 (n / 10) (omega arith)))
 
 pub decimal-long : (n : ℕ) → length (decimal n) ≤ 20
 unfolding decimal
 decimal-long n = digits-long 20 n
 
--- two digits
-pub decimal-pair : (n : ℕ) → 10 ≤ n → n < 100 → pair n ≡ decimal n
-decimal-pair n h l = sym (decimal-more n h (omega arith) ∙ ap (λ (d : List ℕ). d ++ ((48 + n % 10) ∷ [])) (decimal-one (n / 10) (omega arith)))
-
--- the last two digits
-pub decimal-pairs : (n : ℕ) → 100 ≤ n → n < 18446744073709551616 → decimal (n / 100) ++ pair (n % 100) ≡ decimal n
-decimal-pairs n h l =
-    let front : n / 10 / 10 ≡ n / 100 = omega arith in
-    let tens : n / 10 % 10 ≡ n % 100 / 10 = omega arith in
-    let ones : n % 10 ≡ n % 100 % 10 = omega arith in
-    sym
-    (decimal-more n (omega arith) l
-    ∙ ap (λ (d : List ℕ). d ++ ((48 + n % 10) ∷ [])) (decimal-more (n / 10) (omega arith) (omega arith))
-    ∙ append-assoc (decimal (n / 10 / 10)) ((48 + n / 10 % 10) ∷ []) ((48 + n % 10) ∷ [])
-    ∙ rw (front, tens, ones))
-
--- a number below 100 has at most two digits
-pub decimal-short : (n : ℕ) → n < 100 → length (decimal n) ≤ 2
-decimal-short n l = go (below-or n 10)
-  where
-    go : (n < 10) ⊎ (10 ≤ n) → length (decimal n) ≤ 2
-    go (inl h) = rw (decimal-one n h) (omega arith)
-    go (inr h) = rw (← (decimal-pair n h l)) (omega arith)
-
--- the last four digits
-pub decimal-fours : (n : ℕ) → 10000 ≤ n → n < 18446744073709551616 → decimal (n / 10000) ++ four (n % 10000) ≡ decimal n
-decimal-fours n h l =
-    let front : n / 100 / 100 ≡ n / 10000 = omega arith in
-    let high : n / 100 % 100 ≡ n % 10000 / 100 = omega arith in
-    let low : n % 100 ≡ n % 10000 % 100 = omega arith in
-    sym
-    (sym (decimal-pairs n (omega arith) l)
-    ∙ ap (λ (d : List ℕ). d ++ pair (n % 100)) (sym (decimal-pairs (n / 100) (omega arith) (omega arith)))
-    ∙ append-assoc (decimal (n / 100 / 100)) (pair (n / 100 % 100)) (pair (n % 100))
-    ∙ rw (front, high, low))
-
--- a number's digits but the last four are at most 16
-pub decimal-front : (n : ℕ) → 10000 ≤ n → n < 18446744073709551616 → length (decimal (n / 10000)) ≤ 16
-decimal-front n h l = omega (arith, ap length (decimal-fours n h l), length-append (decimal (n / 10000)) (four (n % 10000)), decimal-long n)
+-- a number's digits but the last are at most 19
+pub decimal-front : (n : ℕ) → 10 ≤ n → n < 18446744073709551616 → length (decimal (n / 10)) ≤ 19
+decimal-front n h l = omega (arith, ap length (decimal-more n h l), length-append (decimal (n / 10)) ((48 + n % 10) ∷ []), decimal-long n)
 
 -- ---- read back
 
@@ -115,17 +77,3 @@ digits-value (suc k) n h = go (λ l. digits-value k (n / 10) l) (below-or n 10)
 pub decimal-value : (n : ℕ) → n < 18446744073709551616 → valueFrom 0 (decimal n) ≡ n
 unfolding decimal
 decimal-value n l = digits-value 19 n (omega arith)
-
--- ---- stored
-
-pub put-last : (o : List ℕ) (a n : ℕ) → n < 10 → a + 2 ≤ length o
-    → (set o a (48 + n) ≡ put o a (decimal n)) × (a + 1 ≡ a + length (decimal n))
-put-last o a n h l = rw (decimal-one n h) (put-one o a (48 + n) (omega arith), refl)
-
-pub put-two : (o : List ℕ) (a n : ℕ) → a + 2 ≤ length o → (set (set o a (48 + n / 10)) (a + 1) (48 + n % 10) ≡ put o a (pair n)) × (a + 2 ≡ a + length (pair n))
-put-two o a n h =
-    let first : set o a (48 + n / 10) ≡ put o a ((48 + n / 10) ∷ []) = put-one o a (48 + n / 10) (omega arith) in (
-      put-one (set o a (48 + n / 10)) (a + 1) (48 + n % 10) (simp length-set (omega arith))
-          ∙ rw first (put-put o a ((48 + n / 10) ∷ []) (omega arith) ((48 + n % 10) ∷ []) (omega arith)),
-      refl,
-    )

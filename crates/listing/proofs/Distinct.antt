@@ -2,14 +2,15 @@
 -- frames from that of an empty one.
 use mathlib.Core.Path.{_≡_, refl, sym, ap, _∙_}
 use mathlib.Core.Logic.{_⊎_, inl, inr}
-use mathlib.Core.List.{List, [], _∷_, _++_}
+use mathlib.Core.List.{List, [], _∷_, _++_, append-assoc}
 use Prim.Native.Nat.{ℕ, zero, suc, _+_, _/_, _%_, _≤_, _<_}
 use native.Mathlib.Omega.{arith}
 use lib.ListN.{length}
-use Rattle.wire.specs.Frame.{Frame, ticksOf}
+use Rattle.wire.specs.Frame.{Frame}
+use Rattle.clock.specs.Time.{ticksOf}
 use Rattle.wire.specs.Walk.{at, refused, readOf}
-use Rattle.leb128.proofs.Steps.{below-or}
-use Rattle.listing.specs.Line.{digits, decimal, okWord, refusedWord, row, lineOf, payloadLine}
+use Rattle.octets.proofs.Order.{below-or}
+use Rattle.listing.specs.Line.{digits, decimal, okWord, refusedWord, numbered, lineWith, lineOf, payloadLine}
 use Rattle.listing.proofs.Digits.{digits-one, digits-more, valueFrom, decimal-value}
 
 -- every octet is a digit, or beyond one
@@ -50,27 +51,34 @@ before-space (d ∷ ds) (e ∷ es) xs ys a b q =
     let w : ds ≡ es = before-space ds es xs ys (a .1) (b .1) (let y : ds ++ (32 ∷ xs) ≡ es ++ (32 ∷ ys) = cc in y) in
     cc
 
-rows-differ : (n m a b x y : ℕ) → row n refusedWord a b ≡ row m okWord x y → ⊥
-rows-differ n m a b x y q =
-    let r = behind-space (decimal n) (decimal m) _ _ (decimal-plain n) (decimal-plain m) q in
+-- a line from its first number on
+line-parts : (n : ℕ) (w : List ℕ) (a b : ℕ) → lineWith n w a b ≡ decimal n ++ (w ++ (decimal a ++ (32 ∷ (decimal b ++ (10 ∷ [])))))
+line-parts n w a b =
+    append-assoc (decimal n ++ numbered w a) (numbered (32 ∷ []) b) (10 ∷ [])
+    ∙ append-assoc (decimal n) (numbered w a) (32 ∷ (decimal b ++ (10 ∷ [])))
+    ∙ ap (λ (l : List ℕ). decimal n ++ l) (append-assoc w (decimal a) (32 ∷ (decimal b ++ (10 ∷ []))))
+
+lines-differ : (n m a b x y : ℕ) → lineWith n refusedWord a b ≡ lineWith m okWord x y → ⊥
+lines-differ n m a b x y q =
+    let r = behind-space (decimal n) (decimal m) _ _ (decimal-plain n) (decimal-plain m) (sym (line-parts n refusedWord a b) ∙ q ∙ line-parts m okWord x y) in
     let z : _≡_ {A = ℕ} 114 111 = cc in
     omega arith
 
 -- the line of a payload that is refused is that of no accepted one, whatever the numbers of the two
-pub refused-line : (p q : List ℕ) (n m k place u : ℕ) (later fs : List Frame) → readOf p ≡ refused k place later → readOf q ≡ at u fs
+pub refused-line : (p q : List ℕ) (n m k place u : ℕ) (behind fs : List Frame) → readOf p ≡ refused k place behind → readOf q ≡ at u fs
     → payloadLine n p ≡ payloadLine m q → ⊥
-refused-line p q n m k place u later fs ep eq e =
-    rows-differ n m k place (length fs) (ticksOf fs) (sym (ap (lineOf n) ep) ∙ e ∙ ap (lineOf m) eq)
+refused-line p q n m k place u behind fs ep eq e =
+    lines-differ n m k place (length fs) (ticksOf fs) (sym (ap (lineOf n) ep) ∙ e ∙ ap (lineOf m) eq)
 
 -- an empty payload among them
-pub refused-not-empty : (p : List ℕ) (n m k place : ℕ) (later : List Frame) → readOf p ≡ refused k place later → payloadLine n p ≡ payloadLine m [] → ⊥
+pub refused-not-empty : (p : List ℕ) (n m k place : ℕ) (behind : List Frame) → readOf p ≡ refused k place behind → payloadLine n p ≡ payloadLine m [] → ⊥
 unfolding readOf
-refused-not-empty p n m k place later ep e = refused-line p [] n m k place 0 later [] ep refl e
+refused-not-empty p n m k place behind ep e = refused-line p [] n m k place 0 behind [] ep refl e
 
 -- two lines of accepted payloads: as many frames
-same-frames : (n m a b x y : ℕ) → a < 18446744073709551616 → x < 18446744073709551616 → row n okWord a b ≡ row m okWord x y → a ≡ x
+same-frames : (n m a b x y : ℕ) → a < 18446744073709551616 → x < 18446744073709551616 → lineWith n okWord a b ≡ lineWith m okWord x y → a ≡ x
 same-frames n m a b x y la lx q =
-    let r = behind-space (decimal n) (decimal m) _ _ (decimal-plain n) (decimal-plain m) q in
+    let r = behind-space (decimal n) (decimal m) _ _ (decimal-plain n) (decimal-plain m) (sym (line-parts n okWord a b) ∙ q ∙ line-parts m okWord x y) in
     let s : decimal a ++ (32 ∷ (decimal b ++ (10 ∷ []))) ≡ decimal x ++ (32 ∷ (decimal y ++ (10 ∷ []))) = cc in
     let d : decimal a ≡ decimal x = before-space (decimal a) (decimal x) _ _ (decimal-plain a) (decimal-plain x) s in
     sym (decimal-value a la) ∙ ap (valueFrom 0) d ∙ decimal-value x lx

@@ -1,5 +1,5 @@
 pub mod Line
 pub mod Listing
-pub mod Entries
-pub mod Carried
+pub mod Answers
+pub mod Steps
 pub mod Sample

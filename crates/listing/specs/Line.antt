@@ -1,11 +1,11 @@
--- Document 01, "The listing": the lines, as octets of ASCII.
-use mathlib.Core.Bool.{Bool, cond}
+-- docs/FORMAT.md, "Listing": the lines, as octets of ASCII.
+use mathlib.Core.Bool.{cond}
 use mathlib.Core.List.{List, [], _∷_, _++_}
 use Prim.Native.Nat.{ℕ, zero, suc, _+_, _/_, _%_}
 use lib.Dec.{ltb}
 use lib.ListN.{length}
-use Rattle.wire.specs.Frame.{ticksOf}
 use Rattle.wire.specs.Walk.{Walk, at, refused, readOf}
+use Rattle.clock.specs.Time.{ticksOf}
 
 -- the decimal digits of n, highest first, no leading zero; k digits are enough for it
 abbrev pub digits : ℕ → ℕ → List ℕ
@@ -16,14 +16,6 @@ digits (suc k) n = cond (ltb n 10) ((48 + n) ∷ []) (digits k (n / 10) ++ ((48 
 unfoldable pub decimal : ℕ → List ℕ
 decimal n = digits 20 n
 
--- the two digits of a number below 100
-abbrev pub pair : ℕ → List ℕ
-pair n = (48 + n / 10) ∷ (48 + n % 10) ∷ []
-
--- the four digits of a number below 10,000
-abbrev pub four : ℕ → List ℕ
-four n = pair (n / 100) ++ pair (n % 100)
-
 -- ` ok `
 abbrev pub okWord : List ℕ
 okWord = 32 ∷ 111 ∷ 107 ∷ 32 ∷ []
@@ -31,10 +23,6 @@ okWord = 32 ∷ 111 ∷ 107 ∷ 32 ∷ []
 -- ` refused `
 abbrev pub refusedWord : List ℕ
 refusedWord = 32 ∷ 114 ∷ 101 ∷ 102 ∷ 117 ∷ 115 ∷ 101 ∷ 100 ∷ 32 ∷ []
-
--- the word of a payload that is whole, or not
-abbrev pub verdict : Bool → List ℕ
-verdict b = cond b okWord refusedWord
 
 -- `end `
 abbrev pub endWord : List ℕ
@@ -44,27 +32,31 @@ endWord = 101 ∷ 110 ∷ 100 ∷ 32 ∷ []
 abbrev pub cutWord : List ℕ
 cutWord = 99 ∷ 117 ∷ 116 ∷ 32 ∷ []
 
--- a number, a word, and two numbers with a space between, and the line's end
-abbrev pub row : ℕ → List ℕ → ℕ → ℕ → List ℕ
-row n word a b = decimal n ++ (word ++ (decimal a ++ (32 ∷ (decimal b ++ (10 ∷ [])))))
+-- a word, and a number behind it
+abbrev pub numbered : List ℕ → ℕ → List ℕ
+numbered word n = word ++ decimal n
 
--- "(number, frames, ticks; or number, refusal, place)": the line of the payload with the number n
+-- a number, a word, two numbers with a space between, and the line's end
+abbrev pub lineWith : ℕ → List ℕ → ℕ → ℕ → List ℕ
+lineWith n word a b = decimal n ++ numbered word a ++ numbered (32 ∷ []) b ++ (10 ∷ [])
+
+-- "(number, frames, ticks; or number, refusal, place)": the line of the payload with the number n, by the walk over it
 abbrev pub lineOf : ℕ → Walk → List ℕ
-lineOf n (at u fs) = row n okWord (length fs) (ticksOf fs)
-lineOf n (refused k place later) = row n refusedWord k place
+lineOf n (at u fs) = lineWith n okWord (length fs) (ticksOf fs)
+lineOf n (refused k place behind) = lineWith n refusedWord k place
 
 -- the line of the payload p, which has the number n
 abbrev pub payloadLine : ℕ → List ℕ → List ℕ
 payloadLine n p = lineOf n (readOf p)
 
 -- a word and a number, and the line's end
-abbrev pub closing : List ℕ → ℕ → List ℕ
-closing word n = word ++ (decimal n ++ (10 ∷ []))
+abbrev pub lastLine : List ℕ → ℕ → List ℕ
+lastLine word n = numbered word n ++ (10 ∷ [])
 
 -- "`end` and that number"
 abbrev pub endLine : ℕ → List ℕ
-endLine n = closing endWord n
+endLine n = lastLine endWord n
 
 -- "ends the list with `cut` and the number of payload lines so far"
 abbrev pub cutLine : ℕ → List ℕ
-cutLine n = closing cutWord n
+cutLine n = lastLine cutWord n

@@ -1,4 +1,4 @@
--- Document 01, "The listing": the input that is shown there, and its output.
+-- docs/FORMAT.md, "Listing": the input that is shown there, and its output.
 use mathlib.Core.List.{List, [], _∷_, _++_}
 use Prim.Native.Nat.{ℕ}
 

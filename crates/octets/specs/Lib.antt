@@ -1,1 +1,4 @@
 pub mod Copy
+pub mod Octet
+pub mod Part
+pub mod Put

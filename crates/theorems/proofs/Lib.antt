@@ -1,2 +1,3 @@
+pub mod RoundTrips
 pub mod NotEmpty
 pub mod Theorems

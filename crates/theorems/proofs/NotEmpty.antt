@@ -1,99 +1,159 @@
 -- A refused payload is never taken for an empty one.
 use mathlib.Core.Path.{_≡_, refl, sym, ap, _∙_, subst}
+use mathlib.Core.Bool.{Bool, cond}
+use mathlib.Core.Logic.{_⊎_, inl, inr}
 use mathlib.Core.List.{List, [], _∷_}
-use Prim.Native.Nat.{ℕ, _+_, _≤_}
+use Prim.Native.Nat.{ℕ, zero, suc, _<_}
 use native.Mathlib.Omega.{arith}
-use lib.IntN.{pos}
-use Rattle.wire.specs.Frame.{Frame, Kind, bps2400, bps1200, bps600, noise, tsvcis, ticks, ticksOf, Octets, Stands, Legal, countOf, octetsOf}
-use Rattle.wire.specs.Walk.{Walk, at, refused, named, counted, ending, whole, lastFrame, clash, beside, readOf}
-use Rattle.wire.proofs.Ranges.{in-range, frames-most}
-use Rattle.payload.specs.Reading.{readInto, Outcome, settle, reportOf}
-use Rattle.payload.specs.declared.Reading.{Reading}
-use Rattle.payload.proofs.Demanded.{hands-out, settle-refused}
-use Rattle.payload.proofs.Seen.{Accepted, View, over, not, view, reads-it, none-gives}
-use Rattle.clock.specs.Time.{packetTicks, packetReport}
-use Rattle.clock.specs.declared.PacketTicks.{PacketTicks}
+use lib.Dec.{T, eqb, ltb, eqb→eq, ltb→lt}
+use lib.ListN.{length}
+use borrow.Author.Tests.{eq-eqb, ne-eqb}
+use Rattle.refusal.specs.Report.{Report}
+use Rattle.refusal.specs.Report as report
+use Rattle.octets.specs.Octet.{Octets}
+use Rattle.wire.specs.Frame.{Frame, table, row, countIn, ticksOfRate, Legal, octetsOf, rowsOf}
+use Rattle.wire.specs.Walk.{Walk, at, readOf}
+use Rattle.wire.specs.Answers.{walkReport}
+use Rattle.wire.specs.declared.Kind.{Kind}
+use Rattle.wire.specs.declared.Kind.the-variants.{ComfortNoise}
+use Rattle.wire.specs.declared.Summary.{Summary}
+use Rattle.wire.proofs.TableLaws.{at-kind, same-number}
+use Rattle.wire.proofs.Rates.{either}
+use Rattle.wire.proofs.Ranges.{frames-most}
+use Rattle.wire.proofs.Meaning.{Accepted, Meaning, accepted, denied, meaning, reads-it}
+use Rattle.reader.specs.Reading.{readingReport}
+use Rattle.clock.specs.Time.{ticksIn, ticksOf, packetReport}
+use Rattle.clock.specs.declared.Ticks.{Ticks}
 use Rattle.listing.specs.Line.{payloadLine}
 use Rattle.listing.proofs.Distinct.{refused-not-empty, frames-not-empty}
-use Rattle.host.specs.Host.{hostCount}
-use Rattle.host.proofs.Counts.{empty-legal, counted as host-counted}
-use Rattle.theorems.specs.NotEmpty.{NotEmpty, NoiseAlone}
+use Rattle.moult.proofs.Counts.{empty-legal}
+use Rattle.theorems.specs.NotEmpty.{NoneGives, NotReadEmpty, WalkTells, CountTells, TimeTells, LineTells, NoiseAlone, RefusedIsNotEmpty}
 
--- a legal sequence with frames that lasts 0 ticks is comfort noise alone
-lasts-nothing : (f : Frame) (fs : List Frame) → Legal (f ∷ fs) → ticksOf (f ∷ fs) ≡ 0 → (f .kind ≡ noise) × (fs ≡ [])
-lasts-nothing f fs l = go (f .kind) (l .1 .1)
+-- ---- comfort noise alone lasts nothing
+
+-- a kind without a rate is comfort noise; any other lasts
+lasts-or-noise : Kind → Bool
+lasts-or-noise k = cond (eqb (table k .rate) 0) (eqb (table k .number) 4) (ltb 0 (ticksOfRate (table k .rate)))
+
+all-last : (k : Kind) → T (lasts-or-noise k)
+unfolding lasts-or-noise ticksOfRate
+all-last = at-kind lasts-or-noise tt
+
+noise-kind : (k : Kind) → table k .rate ≡ 0 → k ≡ ComfortNoise
+unfolding lasts-or-noise
+noise-kind k e = same-number k ComfortNoise (eqb→eq (table k .number) 4 (simp (eq-eqb (table k .rate) 0 e) at (all-last k)))
+
+coder-lasts : (k : Kind) → (table k .rate ≡ 0 → ⊥) → 0 < ticksOfRate (table k .rate)
+unfolding lasts-or-noise
+coder-lasts k e = ltb→lt 0 (ticksOfRate (table k .rate)) (simp (ne-eqb (table k .rate) 0 e) at (all-last k))
+
+lasts-nothing : (f : Frame) (fs : List Frame) → Legal (f ∷ fs) → ticksOf (f ∷ fs) ≡ 0 → (f .row .kind ≡ ComfortNoise) × (rowsOf fs ≡ [])
+lasts-nothing f fs l e = go (either (l .rows .common) (table (f .row .kind) .rate) (rowsOf fs) (l .rows .rated .1))
   where
-    go : (k : Kind) → Stands (l .0) k fs → ticks k + ticksOf fs ≡ 0 → (k ≡ noise) × (fs ≡ [])
-    go bps2400 s e = absurd (omega arith)
-    go bps1200 s e = absurd (omega arith)
-    go bps600 s e = absurd (omega arith)
-    go noise s e = (refl, s)
-    go tsvcis s e = absurd (omega arith)
+    go : ((table (f .row .kind) .rate ≡ 0) × (rowsOf fs ≡ [])) ⊎ ((table (f .row .kind) .rate ≡ 0 → ⊥) × (table (f .row .kind) .rate ≡ l .rows .common))
+        → (f .row .kind ≡ ComfortNoise) × (rowsOf fs ≡ [])
+    go (inl w) = (noise-kind (f .row .kind) (w .0), w .1)
+    go (inr w) = absurd (omega (arith, coder-lasts (f .row .kind) (w .0)))
 
--- the time of the empty payload
-no-time : packetReport (packetTicks (readOf [])) ≡ record { number = 0; place = 0; ticks = 0 }
-no-time = ap (λ (w : Walk). packetReport (packetTicks w)) (reads-it [] [] empty-legal refl)
+no-rows : (fs : List Frame) → rowsOf fs ≡ [] → fs ≡ []
+no-rows [] e = refl
+no-rows (f ∷ fs) e = absurd (omega (arith, ap length e))
 
-module _ (p r b : List ℕ) (o : Octets p) where
-  -- the empty payload is accepted, whatever room is lent
-  empty-read : reportOf (readInto [] r b .answer) .number ≡ 0
-  empty-read = ap (λ (x : Outcome). reportOf (x .answer) .number) (hands-out [] r b [] empty-legal refl (omega arith, omega arith))
+-- ---- one by one
 
-  -- accepted with frames: the line says so, and only comfort noise lasts 0 ticks
-  frames-line : (fs : List Frame) → readOf p ≡ at 0 fs → Legal fs → (fs ≡ [] → ⊥) → (n m : ℕ) → payloadLine n p ≡ payloadLine m [] → ⊥
-  frames-line [] q l some n m = absurd (some refl)
-  frames-line (f ∷ fs) q l some n m = frames-not-empty p n m (f ∷ fs) q (omega arith) (frames-most (f ∷ fs) l)
+module _ (p : List ℕ) (o : Octets p) where
+  -- the empty payload is accepted, whatever is lent
+  pub reading-tells : (x : Report Summary) → (x .number ≡ 0 → ⊥) → NotReadEmpty x
+  reading-tells x h s c s′ c′ e g q = h (ap (λ (y : Report Summary). y .number) q ∙ g .demand .empty refl .0)
 
-  frames-time : (fs : List Frame) → readOf p ≡ at 0 fs → Legal fs → octetsOf fs ≡ p → (fs ≡ [] → ⊥) → packetTicks (readOf p) ≡ packetTicks (readOf []) → NoiseAlone p
-  frames-time [] q l g some e = absurd (some refl)
-  frames-time (f ∷ fs) q l g some e =
-      let z : ticksOf (f ∷ fs) ≡ 0 = sym (ap (λ (w : Walk). packetReport (packetTicks w) .ticks) q) ∙ ap (λ (a : PacketTicks). packetReport a .ticks) e ∙ ap (λ x. x .ticks) no-time in
-      let s = lasts-nothing f fs l z in
-      let c : f ∷ fs ≡ f ∷ [] = ap (λ (gs : List Frame). f ∷ gs) (s .1) in
-      (f, s .0, subst Legal c l, ap octetsOf (sym c) ∙ g)
+  module _ (some : p ≡ [] → ⊥) where
+    frames : (a : Accepted p) → length (a .fs) ≡ 0 → ⊥
+    frames a = go (a .fs) (a .gives)
+      where
+        go : (fs : List Frame) → octetsOf fs ≡ p → length fs ≡ 0 → ⊥
+        go [] g e = some (sym g)
+        go (f ∷ fs) g e = omega arith
 
-  -- the theorem
-  pub not-empty : (reportOf (readInto p r b .answer) .number ≡ 0 → ⊥) → NotEmpty p r b
-  unfolding hostCount
-  not-empty h = record {
-    reading = λ e. h (ap (λ (a : Reading). reportOf a .number) e ∙ empty-read);
-    count = λ e.
-        let none : hostCount (readOf []) ≡ pos 0 = ap hostCount (reads-it [] [] empty-legal refl) in
-        not-nothing (host-counted p (hostCount (readOf p)) o refl .only-empty (e ∙ none));
-    time = timed (readOf p) refl (view p o);
-    line = lined (readOf p) refl (view p o);
-  }
-    where
-      not-nothing : p ≡ [] → ⊥
-      not-nothing q = h (ap (λ (y : List ℕ). reportOf (readInto y r b .answer) .number) q ∙ empty-read)
+    pub walk-tells : WalkTells p
+    walk-tells a e w v q = go (meaning p o) (sym (w .numbers) ∙ q ∙ v .numbers ∙ ap walkReport (reads-it [] [] empty-legal refl))
+      where
+        go : {u : Walk} → Meaning p u → walkReport u ≡ walkReport (at 0 []) → ⊥
+        go (accepted y) h = frames y (ap (λ (z : Report Summary). z .value .frames) h)
+        go (denied x d) h = omega (arith, d .range .0, ap (λ (z : Report Summary). z .number) h)
 
-      some : (a : Accepted p) → a .fs ≡ [] → ⊥
-      some a e = not-nothing (sym (a .gives) ∙ ap octetsOf e)
+    pub count-tells : CountTells p
+    count-tells a e w v q = some (w .only-empty (q ∙ v .empty refl))
 
-      timed : (w : Walk) → readOf p ≡ w → View p w → packetTicks (readOf p) ≡ packetTicks (readOf []) → NoiseAlone p
-      timed _ q (over a) e = frames-time (a .fs) q (a .legal) (a .gives) (some a) e
-      timed _ q (not x d) e =
-          let n : packetReport (packetTicks (readOf p)) .number ≡ x .number = ap (λ (w : Walk). packetReport (packetTicks w) .number) q in
-          let z : packetReport (packetTicks (readOf p)) .number ≡ 0 = ap (λ (a : PacketTicks). packetReport a .number) e ∙ ap (λ x. x .number) no-time in
-          absurd (omega (arith, d .range .some))
+    pub line-tells : LineTells p
+    line-tells n m = go (readOf p) refl (meaning p o)
+      where
+        shown : (fs : List Frame) → readOf p ≡ at 0 fs → Legal fs → (length fs ≡ 0 → ⊥) → payloadLine n p ≡ payloadLine m [] → ⊥
+        shown fs q l h = frames-not-empty p n m fs q (omega arith) (frames-most fs l)
 
-      lined : (w : Walk) → readOf p ≡ w → View p w → (n m : ℕ) → payloadLine n p ≡ payloadLine m [] → ⊥
-      lined _ q (over a) n m = frames-line (a .fs) q (a .legal) (some a) n m
-      lined _ q (not x d) n m = refused-not-empty p n m (x .number) (x .place) (d .later) q
+        go : (u : Walk) → readOf p ≡ u → Meaning p u → payloadLine n p ≡ payloadLine m [] → ⊥
+        go _ q (accepted a) = shown (a .fs) q (a .legal) (frames a)
+        go _ q (denied x d) = refused-not-empty p n m (x .number) (x .place) (d .behind) q
 
-  -- refused for its octets, p is not comfort noise: its time differs too
-  pub time-not-empty : {n place : ℕ} {later : List Frame} → readOf p ≡ refused n place later → packetTicks (readOf p) ≡ packetTicks (readOf []) → ⊥
-  time-not-empty {n} {place} {later} q e =
-      let some : 1 ≤ n = in-range p n place later q .some in
-      let number : reportOf (readInto p r b .answer) .number ≡ n = ap (λ (x : Outcome). reportOf (x .answer) .number) (ap (settle r b) q ∙ settle-refused r b n place later) in
-      let x = not-empty (λ z. omega arith) .time e in
-      none-gives p q (x .0 ∷ []) (x .2) (x .3)
+    -- only comfort noise lasts nothing
+    pub time-tells : (NoiseAlone p → ⊥) → TimeTells p
+    time-tells none a e w v q =
+        let z : packetReport e ≡ report.accepted (ticksIn 0) = v .ticks [] empty-legal refl in
+        let s = w .accepted (ap (λ (x : Report Ticks). x .number) (q ∙ z)) in
+        let t : ticksOf (s .0) ≡ 0 = ap (λ (x : Report Ticks). x .value .0) (sym (w .ticks (s .0) (s .1) (s .2)) ∙ q ∙ z) in
+        go (s .0) (s .1) (s .2) t
+      where
+        go : (fs : List Frame) → Legal fs → octetsOf fs ≡ p → ticksOf fs ≡ 0 → ⊥
+        go [] l g t = some (sym g)
+        go (f ∷ fs) l g t =
+            let y = lasts-nothing f fs l t in
+            let c : f ∷ fs ≡ f ∷ [] = ap (λ (gs : List Frame). f ∷ gs) (no-rows fs (y .1)) in
+            none (f, y .0, subst Legal c l, ap octetsOf (sym c) ∙ g)
 
--- the exception is there: comfort noise alone, refused where no row is lent, lasts as long as the empty payload
-pub noise-refused : reportOf (readInto (0 ∷ 160 ∷ []) [] [] .answer) .number ≡ 9
-unfolding countOf named counted ending whole lastFrame clash beside readOf settle
-noise-refused = refl
+-- `00 A0`
+noise-frames : List Frame
+noise-frames = record { row = row ComfortNoise 0; body = 0 ∷ 0 ∷ [] } ∷ []
 
-pub noise-time : packetTicks (readOf (0 ∷ 160 ∷ [])) ≡ packetTicks (readOf [])
-unfolding countOf named counted ending whole lastFrame clash beside readOf settle
-noise-time = refl
+noise-legal : Legal noise-frames
+unfolding noise-frames countIn
+noise-legal = record {
+  rows = record { common = 0; rated = (record { least = omega arith; most = omega arith }, refl, tt); total = omega arith };
+  bodies = (record { size = refl; end = omega arith; octets = below }, tt);
+}
+  where
+    below : Octets (0 ∷ 0 ∷ [])
+    below zero = omega arith
+    below (suc zero) = omega arith
+    below (suc (suc i)) = omega arith
+
+noise-gives : octetsOf noise-frames ≡ 0 ∷ 0xa0 ∷ []
+unfolding noise-frames countIn
+noise-gives = refl
+
+noise-lasts : ticksOf noise-frames ≡ 0
+unfolding noise-frames ticksOfRate
+noise-lasts = refl
+
+refused-some : (p : List ℕ) → NoneGives p → p ≡ [] → ⊥
+refused-some p none e = none [] empty-legal (sym e)
+
+pub refused-is-not-empty : RefusedIsNotEmpty
+refused-is-not-empty = record {
+  octets = λ p o none.
+      let some = refused-some p none in (
+        λ r b r′ b′ a g. reading-tells p o (readingReport a) (λ z. let s = g .demand .accepted z in none (s .0) (s .1) (s .2)),
+        walk-tells p o some,
+        count-tells p o some,
+        time-tells p o some (λ x. none (x .0 ∷ []) (x .2) (x .3)),
+        line-tells p o some,
+      );
+  room = λ p o r b r′ b′ a g h.
+      let some : p ≡ [] → ⊥ = λ e. h (g .demand .empty e .0) in (
+        reading-tells p o (readingReport a) h,
+        walk-tells p o some,
+        count-tells p o some,
+        line-tells p o some,
+        time-tells p o some,
+      );
+  noise = λ a e w v.
+      w .ticks noise-frames noise-legal noise-gives ∙ ap (λ (n : ℕ). report.accepted (ticksIn n)) noise-lasts ∙ sym (v .ticks [] empty-legal refl);
+}

@@ -1,2 +1,3 @@
-pub mod Sought
+pub mod RowLocation
+pub mod StepBackLoop
 pub mod Shown

@@ -1,121 +1,122 @@
-// Frames shown in place: parts of the lent payload itself, never copies.
+// Frames shown in place: where a row's frame stands in a payload, and parts of the lent payload itself, never copies.
 ghost use mathlib.Core.Path.{_≡_};
+ghost use Prim.Native.Nat.{_+_, _≤_, _<_};
+ghost use lib.ListN.{length};
 ghost use Rattle.wire.specs.Walk.{readOf};
-ghost use Rattle.views.specs.View.{placeOf, placeAt, beforeEnd, endOf, rowBefore, Holds, AugmentationShown, FrameShown};
-use payload::Walked;
-use wire::Found;
+ghost use Rattle.octets.specs.Part.{part};
+ghost use Rattle.views.specs.View.{span, augmentationAt, locationOf, Locates, partAt, AugmentationShown, FrameShown};
+ghost use Rattle.views.specs.StepBack.{Holds};
+ghost use Rattle.views.specs.declared.Location.the-variants.{At};
+use wire::Ending;
 use wire::Shape;
+use wire::Walked;
 
-// A frame's octets: of its base, of its augmentation, and all on the wire.
-pub struct Sizes {
-    pub size: usize,
-    pub tc: usize,
-    pub wire: usize,
+// A part of the payload: the index of its first octet, and its octets.
+pub struct Span {
+    pub start: usize,
+    pub length: usize,
 }
 
-// Where a row's frame starts in the payload, and its sizes.
-pub enum Place {
-    At(usize, Sizes),
+// Where a row's frame stands in the payload, and its augmentation, which is empty at the payload's start where its kind has none;
+// missing where the payload is refused or has no such row.
+pub enum Location {
+    At { frame: Span, augmentation: Span },
     Missing,
 }
 
-// Where the frame ends that has `behind` frames behind it, in a payload that is known to hold it: the payload's octets, less
-// those of the frames behind.
-fn back(payload: &[u8], behind: usize) -> usize
-    requires { ⌜ Holds (now payload) behind ⌝ }
-    ensures { λ r. ⌜ r ≡ endOf (readOf (now (payload .entry))) (rowBefore (readOf (now (payload .entry))) behind) ⌝ }
+// The location of a frame of this shape that starts at an index.
+fn location_at(start: usize, shape: Shape) -> Location
+    requires { ⌜ start + shape .entry .octets ≤ 1400 ⌝ }
+    ensures { λ r. ⌜ r ≡ At (span start (shape .wire)) (augmentationAt start (shape .entry) (shape .tc)) ⌝ }
+{
+    let frame = Span {
+        start,
+        length: shape.wire,
+    };
+    if shape.entry.most == 0 {
+        let augmentation = Span {
+            start: 0,
+            length: 0,
+        };
+        return Location::At {
+            frame,
+            augmentation,
+        };
+    }
+    let augmentation = Span {
+        start: start + shape.entry.octets,
+        length: shape.tc,
+    };
+    Location::At {
+        frame,
+        augmentation,
+    }
+}
+
+// The location of a row in a payload that is known to hold so many frames: back from its end, frame by frame.
+fn step_back(payload: &[u8], row: usize, frames: usize) -> Location
+    requires { ⌜ Holds (now payload) frames × (row < frames) ⌝ }
+    ensures { λ r. ⌜ r ≡ locationOf (readOf (now (payload .entry))) row ⌝ }
 {
     let mut unread = payload.len();
-    let mut left = behind;
-    while 0 < left {
-        let found = wire::name(&payload[..unread]);
-        match found {
-            Found::Bad(_) => {
-                return 0;
+    let mut rows = frames;
+    loop {
+        let ending = wire::identify(&payload[..unread]);
+        match ending {
+            // Not reached: the unread octets of such a payload end in a frame.
+            Ending::Refused(_) => {
+                return Location::Missing;
             }
-            Found::Got(shape) => {
+            Ending::Names(named) => {
+                let shape = wire::shape_of(named);
                 unread -= shape.wire;
-                left -= 1;
+                rows -= 1;
+                if rows == row {
+                    return location_at(unread, shape);
+                }
             }
         }
     }
-    unread
 }
 
-// Where a row's frame ends in the payload; 0 where the payload is refused or the row missing. This is the long part of a
-// view, and its answer a number, which goes by a register where a place would go through memory.
-pub fn end_of(payload: &[u8], row: usize) -> usize
-    ensures { λ r. ⌜ r ≡ endOf (readOf (now (payload .entry))) row ⌝ }
+// Where the frame of a row stands in the payload: the numbers behind both views.
+pub fn locate(payload: &[u8], row: usize) -> Location
+    ensures { λ r. ⌜ Locates (now (payload .entry)) row r ⌝ }
 {
-    let walked = payload::walk(payload);
+    let walked = wire::walk(payload);
     match walked {
-        Walked::Refused(_) => 0,
-        Walked::Whole(extent) => {
-            let n = extent.frames;
-            if n <= row {
-                return 0;
+        Walked::Refused(_) => Location::Missing,
+        Walked::Whole(summary) => {
+            let frames = summary.frames;
+            if frames <= row {
+                return Location::Missing;
             }
-            back(payload, n - 1 - row)
+            step_back(payload, row, frames)
         }
     }
 }
 
-// The place of a frame that ends at an index; missing where so few octets do not hold it.
-fn before(end: usize, shape: Shape) -> Place
-    ensures { λ r. ⌜ r ≡ beforeEnd end shape ⌝ }
+// A span of the payload, in place.
+fn part_of(payload: &[u8], span: Span) -> &[u8]
+    requires { ⌜ span .start + span .length ≤ length (now payload) ⌝ }
+    ensures { λ r. ⌜ part (r .ptr .0) (r .ptr .1) (now r) ≡ partAt span (part (payload .entry .ptr .0) (payload .entry .ptr .1) (now (payload .entry))) ⌝ }
 {
-    if end < shape.wire {
-        return Place::Missing;
-    }
-    Place::At(
-        end - shape.wire,
-        Sizes {
-            size: shape.size,
-            tc: shape.tc,
-            wire: shape.wire,
-        },
-    )
-}
-
-// The place of the frame that the payload's octets up to an index end in; missing where there is none.
-pub fn place_at(payload: &[u8], end: usize) -> Place
-    ensures { λ r. ⌜ r ≡ placeAt (now (payload .entry)) end ⌝ }
-{
-    if payload.len() < end {
-        return Place::Missing;
-    }
-    let found = wire::name(&payload[..end]);
-    match found {
-        Found::Bad(_) => Place::Missing,
-        Found::Got(shape) => before(end, shape),
-    }
-}
-
-// The place of a row, missing too where the payload is refused: the numbers behind both views. A missing row ends at 0,
-// where no frame is named.
-pub fn locate(payload: &[u8], row: usize) -> Place
-    ensures { λ r. ⌜ r ≡ placeOf (readOf (now (payload .entry))) row ⌝ }
-{
-    let end = end_of(payload, row);
-    place_at(payload, end)
+    let start = span.start;
+    let end = start + span.length;
+    &payload[start..end]
 }
 
 // The row's augmentation as a part of the payload; the empty part at its start where there is none.
 pub fn augmentation(payload: &[u8], row: usize) -> &[u8]
     ensures { λ r. ⌜ AugmentationShown row (payload .entry .ptr .0) (payload .entry .ptr .1) (now (payload .entry)) (r .ptr .0) (r .ptr .1) (now r) ⌝ }
 {
-    let place = locate(payload, row);
-    match place {
-        Place::Missing => &payload[..0],
-        Place::At(start, sizes) => {
-            let tc = sizes.tc;
-            if tc == 0 {
-                return &payload[..0];
-            }
-            let from = start + sizes.size;
-            let to = from + tc;
-            &payload[from..to]
-        }
+    let location = locate(payload, row);
+    match location {
+        Location::Missing => &payload[..0],
+        Location::At {
+            frame: _,
+            augmentation: span,
+        } => part_of(payload, span),
     }
 }
 
@@ -124,12 +125,12 @@ pub fn augmentation(payload: &[u8], row: usize) -> &[u8]
 pub fn frame_or<'a>(payload: &'a [u8], row: usize, stand_in: &'a [u8]) -> &'a [u8]
     ensures { λ r. ⌜ FrameShown row (payload .entry .ptr .0) (payload .entry .ptr .1) (now (payload .entry)) («stand_in» .entry .ptr .0) («stand_in» .entry .ptr .1) (now («stand_in» .entry)) (r .ptr .0) (r .ptr .1) (now r) ⌝ }
 {
-    let place = locate(payload, row);
-    match place {
-        Place::Missing => stand_in,
-        Place::At(start, sizes) => {
-            let end = start + sizes.wire;
-            &payload[start..end]
-        }
+    let location = locate(payload, row);
+    match location {
+        Location::Missing => stand_in,
+        Location::At {
+            frame: span,
+            augmentation: _,
+        } => part_of(payload, span),
     }
 }

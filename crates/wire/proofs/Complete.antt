@@ -1,4 +1,4 @@
--- The reader hands back every legal sequence from the octets that it gives; so no two legal sequences give the same octets.
+-- The walk hands back every legal sequence from the octets that it gives; so no two legal sequences give the same octets.
 use mathlib.Core.Path.{_≡_, refl, sym, ap, _∙_}
 use mathlib.Core.List.{List, [], _∷_, _++_, append-assoc, append-nil}
 use Prim.Native.Nat.{ℕ, zero, suc, _+_, _-_, _≤_, _<_}
@@ -6,48 +6,57 @@ use native.Mathlib.Omega.{arith}
 use lib.ListN.{length, length-append}
 use lib.Seq.{drop-at, take-append-le}
 use borrow.Author.Tests.{le-ltb}
-use Rattle.wire.specs.Frame.{Frame, LegalFrame, size, wireLength, wire, octetsOf, OfRate, Stands, Legal}
-use Rattle.wire.specs.Walk.{Ending, lastFrame, beside, seen, turn, next, frameAt, run, readOf, at}
-use Rattle.wire.proofs.Tables.{size-pos}
-use Rattle.wire.proofs.Octets.{in-place, length-wire, wire-body}
-use Rattle.wire.proofs.InPlace.{InPlace, last-wire, beside-ok}
+use Rattle.wire.specs.Frame.{Frame, LegalRow, LegalBody, LegalBodies, base, rate, bodyOctets, wireOctets, wire, octetsOf, rowsOf, OfRate, Stands, Legal}
+use Rattle.wire.specs.Walk.{lastFrame, beside, rateOf, over, next, frameAt, run, readOf, at}
+use Rattle.wire.specs.declared.Ending.{Ending}
+use Rattle.wire.proofs.TableLaws.{bounds}
+use Rattle.wire.proofs.Octets.{in-place, length-wire, wire-body, length-octets}
+use Rattle.wire.proofs.Rates.{beside-stands}
+use Rattle.wire.proofs.ReadBack.{InPlace, last-wire}
 
-pub next-at : (p : List ℕ) (u : ℕ) (later : List Frame) → 1 ≤ u → next p (at u later) ≡ turn p u later (beside (length later) (seen later) (lastFrame p u))
-next-at p zero later h = absurd (omega arith)
-next-at p (suc u) later h = refl
+pub next-at : (p : List ℕ) (u : ℕ) (behind : List Frame) → 1 ≤ u
+    → next p (at u behind) ≡ over p u behind (beside (length behind) (rateOf (rowsOf behind)) (lastFrame p u))
+next-at p zero behind h = absurd (omega arith)
+next-at p (suc u) behind h = refl
 
-module _ (q rest : List ℕ) (f : Frame) (legal : LegalFrame f) where
-  placed : InPlace (q ++ (wire f ++ rest)) (length q + wireLength (f .kind) (f .tc)) (length q) (f .kind) (f .tc) (f .body)
+pub length-rows : (fs : List Frame) → length (rowsOf fs) ≡ length fs
+length-rows [] = refl
+length-rows (f ∷ fs) = ap suc (length-rows fs)
+
+module _ (q rest : List ℕ) (f : Frame) (legal : LegalRow (f .row)) (body : LegalBody (f .row) (f .body)) where
+  placed : InPlace (q ++ (wire f ++ rest)) (length q + wireOctets (f .row)) (length q) (f .row) (f .body)
   placed = record {
-    long = legal .long;
-    count = legal .count;
-    end = legal .end;
+    legal = legal;
+    size = body .size;
+    end = body .end;
     unread = refl;
-    reads = λ i h. in-place q (wire f) rest i (rw (length-wire (f .kind) (f .tc) (f .body) (legal .long)) h);
+    reads = λ i h. in-place q (wire f) rest i (rw (length-wire (f .row) (f .body) (body .size)) h);
   }
 
   -- the frame is read back where its octets start
-  back-body : frameAt (q ++ (wire f ++ rest)) (length q) (f .kind) (f .tc) .body ≡ f .body
+  back-body : frameAt (q ++ (wire f ++ rest)) (length q) (f .row) .body ≡ f .body
   back-body =
-      let l : length (wire f) ≡ wireLength (f .kind) (f .tc) = length-wire (f .kind) (f .tc) (f .body) (legal .long) in
-      let e : size (f .kind) - 1 < length (wire f) = omega (arith, size-pos (f .kind)) in
-      rw (drop-at q (wire f ++ rest) (length q) refl, take-append-le (size (f .kind) + f .tc) (wire f) rest (omega arith), in-place q (wire f) rest (size (f .kind) - 1) e)
-      (wire-body (f .kind) (f .tc) (f .body) (legal .long))
+      let b = bounds (f .row .kind) in
+      let l : length (wire f) ≡ wireOctets (f .row) = length-wire (f .row) (f .body) (body .size) in
+      let e : base (f .row) - 1 < length (wire f) = omega arith in
+      rw (drop-at q (wire f ++ rest) (length q) refl, take-append-le (bodyOctets (f .row)) (wire f) rest (omega arith), in-place q (wire f) rest (base (f .row) - 1) e)
+      (wire-body (f .row) (f .body) (body .size))
 
-  back : frameAt (q ++ (wire f ++ rest)) (length q) (f .kind) (f .tc) ≡ f
-  back = λ i. record { kind = f .kind; tc = f .tc; body = back-body i }
+  back : frameAt (q ++ (wire f ++ rest)) (length q) (f .row) ≡ f
+  back = λ i. record { row = f .row; body = back-body i }
 
-  one-frame : (r : ℕ) (later : List Frame) → Stands r (f .kind) later → OfRate r later
-      → next (q ++ (wire f ++ rest)) (at (length q + wireLength (f .kind) (f .tc)) later) ≡ at (length q) (f ∷ later)
-  one-frame r later s o =
+  one-frame : (r : ℕ) (behind : List Frame) → Stands r (rate (f .row)) (rowsOf behind) → OfRate r (rowsOf behind)
+      → next (q ++ (wire f ++ rest)) (at (length q + wireOctets (f .row)) behind) ≡ at (length q) (f ∷ behind)
+  one-frame r behind s o =
+      let b = bounds (f .row .kind) in
       let p : List ℕ = q ++ (wire f ++ rest) in
-      let u : ℕ = length q + wireLength (f .kind) (f .tc) in
-      let e : u - wireLength (f .kind) (f .tc) ≡ length q = omega arith in
-      next-at p u later (omega (arith, size-pos (f .kind)))
-      ∙ ap (λ (x : Ending). turn p u later (beside (length later) (seen later) x)) (last-wire p u (length q) (f .kind) (f .tc) (f .body) placed)
-      ∙ ap (turn p u later) (beside-ok r (f .kind) (f .tc) later s o)
-      ∙ ap (λ (a : ℕ). at a (frameAt p a (f .kind) (f .tc) ∷ later)) e
-      ∙ ap (λ (g : Frame). at (length q) (g ∷ later)) back
+      let u : ℕ = length q + wireOctets (f .row) in
+      let e : u - wireOctets (f .row) ≡ length q = omega arith in
+      next-at p u behind (omega arith)
+      ∙ ap (λ (x : Ending). over p u behind (beside (length behind) (rateOf (rowsOf behind)) x)) (last-wire p u (length q) (f .row) (f .body) placed)
+      ∙ ap (over p u behind) (rw length-rows at (beside-stands (f .row) (rowsOf behind) r s o))
+      ∙ ap (λ (a : ℕ). at a (frameAt p a (f .row) ∷ behind)) e
+      ∙ ap (λ (g : Frame). at (length q) (g ∷ behind)) back
 
 -- ---- a sequence, from its end
 
@@ -68,10 +77,15 @@ octets-append [] gs = refl
 octets-append (f ∷ fs) gs = rw (octets-append fs gs) (sym (append-assoc (wire f) (octetsOf fs) (octetsOf gs)))
 
 -- what holds of a frame in the middle
-pub middle : (r : ℕ) (gs : List Frame) (g : Frame) (later : List Frame) → OfRate r (gs ++ (g ∷ later))
-    → LegalFrame g × Stands r (g .kind) later × OfRate r later
-middle r [] g later o = o
-middle r (f ∷ gs) g later o = middle r gs g later (o .2)
+pub record Middle (r : ℕ) (g : Frame) (behind : List Frame) : Type 0 where
+  pub legal : LegalRow (g .row)
+  pub body : LegalBody (g .row) (g .body)
+  pub stands : Stands r (rate (g .row)) (rowsOf behind)
+  pub rated : OfRate r (rowsOf behind)
+
+pub middle : (r : ℕ) (gs : List Frame) (g : Frame) (behind : List Frame) → OfRate r (rowsOf (gs ++ (g ∷ behind))) → LegalBodies (gs ++ (g ∷ behind)) → Middle r g behind
+middle r [] g behind o b = record { legal = o .0; body = b .0; stands = o .1; rated = o .2 }
+middle r (f ∷ gs) g behind o b = middle r gs g behind (o .2) (b .1)
 
 pub stay : (n : ℕ) (p : List ℕ) (fs : List Frame) → run n p (at 0 fs) ≡ at 0 fs
 stay zero p fs = refl
@@ -80,33 +94,36 @@ stay (suc n) p fs = stay n p fs
 pub octets-snoc : (gs : List Frame) (g : Frame) → octetsOf (gs ++ (g ∷ [])) ≡ octetsOf gs ++ wire g
 octets-snoc gs g = octets-append gs (g ∷ []) ∙ ap (λ (w : List ℕ). octetsOf gs ++ w) (append-nil (wire g))
 
-length-snoc : (gs : List Frame) (g : Frame) → LegalFrame g → length (octetsOf (gs ++ (g ∷ []))) ≡ length (octetsOf gs) + wireLength (g .kind) (g .tc)
-length-snoc gs g h = rw (octets-snoc gs g) (simp (length-append (octetsOf gs) (wire g), length-wire (g .kind) (g .tc) (g .body) (h .long)))
+length-snoc : (gs : List Frame) (g : Frame) → LegalBody (g .row) (g .body) → length (octetsOf (gs ++ (g ∷ []))) ≡ length (octetsOf gs) + wireOctets (g .row)
+length-snoc gs g h = rw (octets-snoc gs g) (simp (length-append (octetsOf gs) (wire g), length-wire (g .row) (g .body) (h .size)))
 
-walked : {fs : List Frame} → Snoc fs → (n : ℕ) (p rest : List ℕ) (later : List Frame) (r : ℕ)
-    → p ≡ octetsOf fs ++ rest → length (octetsOf fs) ≤ n → OfRate r (fs ++ later)
-    → run n p (at (length (octetsOf fs)) later) ≡ at 0 (fs ++ later)
-walked none n p rest later r e l o = stay n p later
-walked (snoc {gs} v g) zero p rest later r e l o =
-    let m = middle r gs g later (rw append-assoc at o) in
-    absurd (omega (arith, length-snoc gs g (m .0), size-pos (g .kind)))
-walked (snoc {gs} v g) (suc n) p rest later r e l o =
-    let o₂ : OfRate r (gs ++ (g ∷ later)) = rw append-assoc at o in
-    let m = middle r gs g later o₂ in
-    let len = length-snoc gs g (m .0) in
+walked : {fs : List Frame} → Snoc fs → (n : ℕ) (p rest : List ℕ) (behind : List Frame) (r : ℕ)
+    → p ≡ octetsOf fs ++ rest → length (octetsOf fs) ≤ n → OfRate r (rowsOf (fs ++ behind)) → LegalBodies (fs ++ behind)
+    → run n p (at (length (octetsOf fs)) behind) ≡ at 0 (fs ++ behind)
+walked none n p rest behind r e l o b = stay n p behind
+walked (snoc {gs} v g) zero p rest behind r e l o b =
+    let m = middle r gs g behind (rw append-assoc at o) (rw append-assoc at b) in
+    let w = bounds (g .row .kind) in
+    absurd (omega (arith, length-snoc gs g (m .body)))
+walked (snoc {gs} v g) (suc n) p rest behind r e l o b =
+    let o₂ : OfRate r (rowsOf (gs ++ (g ∷ behind))) = rw append-assoc at o in
+    let b₂ : LegalBodies (gs ++ (g ∷ behind)) = rw append-assoc at b in
+    let m = middle r gs g behind o₂ b₂ in
+    let w = bounds (g .row .kind) in
+    let len = length-snoc gs g (m .body) in
     let e₂ : p ≡ octetsOf gs ++ (wire g ++ rest) =
     e ∙ ap (λ (w : List ℕ). w ++ rest) (octets-snoc gs g) ∙ append-assoc (octetsOf gs) (wire g) rest in
-    let step : next p (at (length (octetsOf (gs ++ (g ∷ [])))) later) ≡ at (length (octetsOf gs)) (g ∷ later) =
-    rw (e₂, len) (one-frame (octetsOf gs) rest g (m .0) r later (m .1) (m .2)) in
+    let step : next p (at (length (octetsOf (gs ++ (g ∷ [])))) behind) ≡ at (length (octetsOf gs)) (g ∷ behind) =
+    rw (e₂, len) (one-frame (octetsOf gs) rest g (m .legal) (m .body) r behind (m .stands) (m .rated)) in
     ap (run n p) step
-    ∙ walked v n p (wire g ++ rest) (g ∷ later) r e₂ (omega (arith, size-pos (g .kind))) o₂
-    ∙ ap (at 0) (sym (append-assoc gs (g ∷ []) later))
+    ∙ walked v n p (wire g ++ rest) (g ∷ behind) r e₂ (omega arith) o₂ b₂
+    ∙ ap (at 0) (sym (append-assoc gs (g ∷ []) behind))
 
 pub complete : (fs : List Frame) → Legal fs → readOf (octetsOf fs) ≡ at 0 fs
 unfolding readOf
-complete fs (r, o, l) =
-    simp (le-ltb 1400 (length (octetsOf fs)) l)
-    (walked (from-end fs) (length (octetsOf fs)) (octetsOf fs) [] [] r (sym (append-nil (octetsOf fs))) (omega arith) (rw append-nil o)
+complete fs l =
+    simp (le-ltb 1400 (length (octetsOf fs)) (omega (arith, length-octets fs (l .bodies), l .rows .total)))
+    (walked (from-end fs) (length (octetsOf fs)) (octetsOf fs) [] [] (l .rows .common) (sym (append-nil (octetsOf fs))) (omega arith) (rw append-nil (l .rows .rated)) (rw append-nil (l .bodies))
     ∙ ap (at 0) (append-nil fs))
 
 pub unique : (fs gs : List Frame) → Legal fs → Legal gs → octetsOf fs ≡ octetsOf gs → fs ≡ gs

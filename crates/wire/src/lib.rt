@@ -1,70 +1,203 @@
-// The frame that a payload's unread octets end in: its numbers, all at once, or the refusal of document 01's "Reader".
+// The frames of a payload on the wire: the table of kinds, the frame that octets end in, and the walk from a payload's end to its
+// front, which says what the payload holds or why it is refused.
 ghost use mathlib.Core.Path.{_≡_};
-ghost use Prim.Native.Nat.{_≤_, _<_};
-ghost use mathlib.Core.List.{[]};
 ghost use lib.ListN.{length};
-ghost use Rattle.wire.specs.Frame.{bps2400, bps1200, bps600, noise, tsvcis, ticksOfRate};
-ghost use Rattle.wire.specs.Walk.{named, counted, ending, lastFrame, foundOf, shapeOf, rateOf};
-ghost use Rattle.wire.specs.Step.{plainShape, basedShape, fitShape, fitted, rated, stepped, allowed, barred, EndsFrom, CountIs};
-ghost use Rattle.wire.specs.declared.Found.the-variants.{Got};
+ghost use Prim.Native.Nat.{_≤_, _<_};
+ghost use Rattle.wire.specs.Frame.{plainEntry, augmentedEntry, table, countIn, ticksOfRate};
+ghost use Rattle.wire.specs.Walk.{named, counted, whole, beside, lastFrame, readOf};
+ghost use Rattle.wire.specs.Answers.{KindKnown, Identified, shapeOf, stepOf, walkedOf, Walks};
+ghost use Rattle.wire.specs.declared.Counting.the-variants.{ShortOrLong};
+use refusal::Refusal;
 
-// The kind of a 2400 bps frame without augmentation, the commonest.
-pub const PLAIN_2400: u16 = 1;
+const MOST_OCTETS: usize = 1400;
 
-// The kind of a 600 bps frame.
-pub const PLAIN_600: u16 = 3;
+// The kinds of frames.
+pub enum Kind {
+    Bps2400,
+    Bps1200,
+    Bps600,
+    ComfortNoise,
+    Tsvcis,
+}
 
-// The octets of comfort noise.
-const NOISE_OCTETS: usize = 2;
+// The kind of a number in a row, if it is one.
+pub enum Known {
+    Unknown,
+    Is(Kind),
+}
 
-// A frame's numbers: kind as in a row, octets of its count, TC as in a row, octets of its base, rate code bits, rate (0 of comfort
-// noise), its own bit and the bits of what may stand before it, octets on the wire and those of its body among them. The bits 1,
-// 2 and 4 are a coder frame of 2400, 600 and 1200 bps, 8 is comfort noise. (Where rate follows before, the compiler makes one
-// number of the two.)
-pub struct Shape {
-    pub kind: u16,
-    pub count: u16,
-    pub tc: usize,
-    pub size: usize,
+// How a frame's TC is counted behind its body: not at all; in one octet where that is long enough, else in two.
+pub enum Counting {
+    Uncounted,
+    ShortOrLong,
+}
+
+// A kind's numbers: its number in a row; the octets of its base, the rate code bits in their last one and the most that the body has
+// there; its rate (0 of comfort noise); the least and the most TC; how that is counted.
+pub struct Entry {
+    pub number: u16,
+    pub octets: usize,
     pub code: u8,
+    pub top: u8,
     pub rate: u32,
-    pub own: u32,
-    pub before: u32,
-    pub wire: usize,
+    pub least: usize,
+    pub most: usize,
+    pub counting: Counting,
+}
+
+// A frame's kind and TC.
+pub struct Row {
+    pub kind: Kind,
+    pub tc: u16,
+}
+
+// A frame's numbers: its kind's, its TC, and the octets of its count, its body, and all that stands on the wire.
+pub struct Shape {
+    pub entry: Entry,
+    pub tc: usize,
+    pub count: usize,
     pub body: usize,
+    pub wire: usize,
 }
 
-// What the unread octets end in: a refusal's number, or a frame.
-pub enum Found {
-    Bad(u8),
-    Got(Shape),
+// What unread octets name by their end: a refusal's number, or a frame's row.
+pub enum Ending {
+    Refused(u8),
+    Names(Row),
 }
 
-// What a step of the walk comes to: a refusal's number, or a frame and the number of octets before it.
-pub enum Stepped {
-    Bad(u8),
-    Over(Shape, usize),
+// What the walk's step comes to: a refusal's number, or the frame that it goes over.
+enum Step {
+    Refused(u8),
+    Over(Shape),
 }
 
-fn wide(x: u8) -> usize
-    ensures { λ r. ⌜ r ≡ x ⌝ }
+// What a payload holds: frames, octets of their bodies, the rate of its coder frames (0 where there are none), ticks.
+pub struct Summary {
+    pub frames: usize,
+    pub octets: usize,
+    pub rate: u32,
+    pub ticks: u32,
+}
+
+// An empty payload is whole and holds no frames; a refused one is the other case.
+pub enum Walked {
+    Whole(Summary),
+    Refused(Refusal),
+}
+
+// ---- the table
+
+// A kind without augmentation.
+fn plain(number: u16, octets: usize, code: u8, top: u8, rate: u32) -> Entry
+    ensures { λ r. ⌜ r ≡ plainEntry number octets code top rate ⌝ }
 {
-    x as usize
+    Entry {
+        number,
+        octets,
+        code,
+        top,
+        rate,
+        least: 0,
+        most: 0,
+        counting: Counting::Uncounted,
+    }
 }
 
-// The ticks of a coder frame at a rate; 0 at any other number. Of three tests for equality the compiler would make a table with
-// 600 first; 2400 is the commonest.
+// A kind with augmentation behind a 2400 bps frame.
+fn augmented(number: u16, least: usize, most: usize, counting: Counting) -> Entry
+    ensures { λ r. ⌜ r ≡ augmentedEntry number least most counting ⌝ }
+{
+    Entry {
+        number,
+        octets: 7,
+        code: 0,
+        top: 63,
+        rate: 2400,
+        least,
+        most,
+        counting,
+    }
+}
+
+// The table of kinds.
+pub fn entry_of(kind: Kind) -> Entry
+    ensures { λ r. ⌜ r ≡ table kind ⌝ }
+{
+    match kind {
+        Kind::Bps2400 => plain(1, 7, 0, 63, 2400),
+        Kind::Bps1200 => plain(2, 11, 128, 1, 1200),
+        Kind::Bps600 => plain(3, 7, 64, 63, 600),
+        Kind::ComfortNoise => plain(4, 2, 160, 31, 0),
+        Kind::Tsvcis => augmented(5, 1, 255, Counting::ShortOrLong),
+    }
+}
+
+// The kind of a number in a row.
+pub fn kind_of(number: u16) -> Known
+    ensures { λ r. ⌜ KindKnown number r ⌝ }
+{
+    match number {
+        1 => Known::Is(Kind::Bps2400),
+        2 => Known::Is(Kind::Bps1200),
+        3 => Known::Is(Kind::Bps600),
+        4 => Known::Is(Kind::ComfortNoise),
+        5 => Known::Is(Kind::Tsvcis),
+        _ => Known::Unknown,
+    }
+}
+
+// The octets of a count of `tc`.
+fn count_octets(counting: Counting, tc: usize) -> usize
+    ensures { λ r. ⌜ r ≡ length (countIn counting tc) ⌝ }
+{
+    match counting {
+        Counting::Uncounted => 0,
+        Counting::ShortOrLong => short_or_long(tc),
+    }
+}
+
+// One octet for 15 to 77, else two.
+fn short_or_long(tc: usize) -> usize
+    ensures { λ r. ⌜ r ≡ length (countIn ShortOrLong tc) ⌝ }
+{
+    if tc < 15 {
+        return 2;
+    }
+    if 77 < tc {
+        return 2;
+    }
+    1
+}
+
+// The numbers of a frame of this row.
+pub fn shape_of(row: Row) -> Shape
+    ensures { λ r. ⌜ r ≡ shapeOf row ⌝ }
+{
+    let kind = row.kind;
+    let tc = row.tc as usize;
+    let entry = entry_of(kind);
+    let counting = entry.counting;
+    let count = count_octets(counting, tc);
+    let body = entry.octets + tc;
+    Shape {
+        entry,
+        tc,
+        count,
+        body,
+        wire: body + count,
+    }
+}
+
+// The ticks of a coder frame at a rate; 0 at any other number.
 pub fn ticks_of_rate(rate: u32) -> u32
     ensures { λ r. ⌜ r ≡ ticksOfRate rate ⌝ }
 {
     if rate == 2400 {
         return 180;
     }
-    if 1199 < rate {
-        if rate == 1200 {
-            return 540;
-        }
-        return 0;
+    if rate == 1200 {
+        return 540;
     }
     if rate == 600 {
         return 720;
@@ -72,287 +205,219 @@ pub fn ticks_of_rate(rate: u32) -> u32
     0
 }
 
-// The rate of the coder frames before which these bits may stand; 0 where the bits are not those of one rate.
-pub fn rate_of(before: u32) -> u32
-    ensures { λ r. ⌜ r ≡ rateOf before ⌝ }
+// ---- the frame that octets end in
+
+// What a last octet below 255 names.
+fn last_octet(x: u8) -> Ending
+    requires { ⌜ x < 255 ⌝ }
+    ensures { λ r. ⌜ r ≡ named x ⌝ }
 {
-    if before == 1 {
-        return 2400;
+    if x < 64 {
+        return Ending::Names(Row {
+            kind: Kind::Bps2400,
+            tc: 0,
+        });
     }
-    if before == 2 {
-        return 600;
-    }
-    if before == 4 {
-        return 1200;
-    }
-    0
-}
-
-// The ticks of a coder frame before which these bits may stand; 0 where the bits are not those of one rate. 2400 bps is asked for
-// by its range: by equality the compiler would make one choice of all three rates, which takes a jump more.
-pub fn ticks_of(before: u32) -> u32
-    ensures { λ r. ⌜ r ≡ ticksOfRate (rateOf before) ⌝ }
-{
-    if before < 2 {
-        return 180 * before;
-    }
-    ticks_of_rate(rate_of(before))
-}
-
-// ---- the shapes
-
-// A kind without augmentation, whose base is all that stands on the wire.
-fn plain(kind: u16, size: usize, code: u8, rate: u32, own: u32, before: u32) -> Shape
-    ensures { λ r. ⌜ r ≡ plainShape kind size code rate own before ⌝ }
-{
-    Shape {
-        kind,
-        count: 0,
-        tc: 0,
-        size,
-        code,
-        rate,
-        own,
-        before,
-        wire: size,
-        body: size,
-    }
-}
-
-// 2400 bps, with its own bit, which is 1.
-fn with_2400(own: u32) -> Shape
-    ensures { λ r. ⌜ r ≡ plainShape 1 7 0 2400 own own ⌝ }
-{
-    plain(PLAIN_2400, 7, 0, 2400, own, own)
-}
-
-// 600 bps, with its own bit, which is 2.
-fn with_600(own: u32) -> Shape
-    ensures { λ r. ⌜ r ≡ plainShape 3 7 64 600 own own ⌝ }
-{
-    plain(PLAIN_600, 7, 64, 600, own, own)
-}
-
-fn shape_2400() -> Shape
-    ensures { λ r. ⌜ r ≡ shapeOf bps2400 0 ⌝ }
-{
-    with_2400(1)
-}
-
-fn shape_1200() -> Shape
-    ensures { λ r. ⌜ r ≡ shapeOf bps1200 0 ⌝ }
-{
-    plain(2, 11, 128, 1200, 4, 4)
-}
-
-pub fn shape_600() -> Shape
-    ensures { λ r. ⌜ r ≡ shapeOf bps600 0 ⌝ }
-{
-    with_600(2)
-}
-
-fn shape_noise() -> Shape
-    ensures { λ r. ⌜ r ≡ shapeOf noise 0 ⌝ }
-{
-    plain(4, NOISE_OCTETS, 160, 0, 8, 7)
-}
-
-// A TSVCIS frame of this TC, whose count takes `count` octets.
-fn shape_tsvcis(tc: usize, count: usize) -> Shape
-    requires { ⌜ CountIs tc count ⌝ }
-    ensures { λ r. ⌜ r ≡ shapeOf tsvcis tc ⌝ }
-{
-    Shape {
-        kind: 5,
-        count: count as u16,
-        tc,
-        size: 7,
-        code: 0,
-        rate: 2400,
-        own: 1,
-        before: 1,
-        wire: 7 + tc + count,
-        body: 7 + tc,
-    }
-}
-
-// ---- what the last octets name
-
-// The frame that a last octet from 128 to 191 names.
-fn last_octet(x: u8) -> Found
-    requires { ⌜ (128 ≤ x) × (x < 192) ⌝ }
-    ensures { λ r. ⌜ r ≡ foundOf (named x) ⌝ }
-{
-    if 159 < x {
-        return Found::Got(shape_noise());
+    if x < 128 {
+        return Ending::Names(Row {
+            kind: Kind::Bps600,
+            tc: 0,
+        });
     }
     if x < 130 {
-        return Found::Got(shape_1200());
+        return Ending::Names(Row {
+            kind: Kind::Bps1200,
+            tc: 0,
+        });
     }
-    Found::Bad(refusal::FOREIGN_BITS)
+    if x < 160 {
+        return Ending::Refused(refusal::RESERVED_BITS);
+    }
+    if x < 192 {
+        return Ending::Names(Row {
+            kind: Kind::ComfortNoise,
+            tc: 0,
+        });
+    }
+    let tc = (x as u16) - 177;
+    Ending::Names(Row {
+        kind: Kind::Tsvcis,
+        tc,
+    })
 }
 
-// The frame that a long count of `tc` names.
-fn long_count(tc: usize) -> Found
-    requires { ⌜ tc < 256 ⌝ }
-    ensures { λ r. ⌜ r ≡ foundOf (counted tc) ⌝ }
+// What a long count of `tc` names.
+fn long_count(tc: u8) -> Ending
+    ensures { λ r. ⌜ r ≡ counted tc ⌝ }
 {
+    if tc == 0 {
+        return Ending::Refused(refusal::LONG_COUNT_ZERO);
+    }
     if tc < 15 {
-        if tc == 0 {
-            return Found::Bad(refusal::ZERO_COUNT);
-        }
-    } else if tc <= 77 {
-        return Found::Bad(refusal::LONG_COUNT);
+        return Ending::Names(Row {
+            kind: Kind::Tsvcis,
+            tc: tc as u16,
+        });
     }
-    Found::Got(shape_tsvcis(tc, 2))
+    if tc < 78 {
+        return Ending::Refused(refusal::LONG_COUNT_SHORT_RANGE);
+    }
+    Ending::Names(Row {
+        kind: Kind::Tsvcis,
+        tc: tc as u16,
+    })
 }
 
-// The TSVCIS frame that a last octet x from 192 on names, which is its count or the second octet of it.
-fn last_count(unread: &[u8], x: u8) -> Found
-    requires { ⌜ EndsFrom 192 (now unread) x ⌝ }
-    ensures { λ r. ⌜ r ≡ foundOf (ending (now (unread .entry)) (length (now (unread .entry)))) ⌝ }
-{
-    if x < 255 {
-        return Found::Got(shape_tsvcis(wide(x) - 177, 1));
-    }
-    let n = unread.len();
-    if n == 1 {
-        return Found::Bad(refusal::CUT);
-    }
-    long_count(wide(unread[n - 2]))
-}
-
-// The frame that the unread octets name by their end, whole or not. The order of the tests is for speed alone.
-pub fn name(unread: &[u8]) -> Found
-    ensures { λ r. ⌜ r ≡ foundOf (ending (now (unread .entry)) (length (now (unread .entry)))) ⌝ }
+// The frame that unread octets name by their end, whole or not.
+pub fn identify(unread: &[u8]) -> Ending
+    ensures { λ r. ⌜ Identified (now (unread .entry)) r ⌝ }
 {
     let n = unread.len();
     if n == 0 {
-        return Found::Bad(refusal::CUT);
+        return Ending::Refused(refusal::FRAME_CUT);
     }
     let x = unread[n - 1];
-    if x < 64 {
-        return Found::Got(shape_2400());
+    if x < 255 {
+        return last_octet(x);
     }
-    if x < 128 {
-        return Found::Got(shape_600());
+    if n == 1 {
+        return Ending::Refused(refusal::FRAME_CUT);
     }
-    if 191 < x {
-        return last_count(unread, x);
-    }
-    last_octet(x)
+    long_count(unread[n - 2])
 }
 
-// ---- the walk's step: first what is asked of one kind alone, then what is asked of all
+// ---- the walk
 
-// A frame whose augmentation must stand behind a 2400 bps frame.
-fn augmented_frame(unread: &[u8], shape: Shape) -> Found
-    requires { ⌜ 7 ≤ shape .wire ⌝ }
-    ensures { λ r. ⌜ r ≡ basedShape (now (unread .entry)) (length (now (unread .entry))) shape ⌝ }
+// The step over the frame of this row at the end of the unread octets: if it is whole, if its base ends as one of its kind does, and if
+// it may stand before the frames already read, of which there are so many, with coder frames of this rate (0: none).
+fn admit(unread: &[u8], row: Row, frames: usize, rate: u32) -> Step
+    ensures { λ r. ⌜ r ≡ stepOf (beside frames rate (whole (now (unread .entry)) (length (now (unread .entry))) (Ending.Names row))) ⌝ }
 {
+    let shape = shape_of(row);
     let n = unread.len();
     let wire = shape.wire;
     if n < wire {
-        return Found::Bad(refusal::CUT);
+        return Step::Refused(refusal::FRAME_CUT);
     }
-    if 63 < unread[n - wire + 6] {
-        return Found::Bad(refusal::NOT_BEHIND_2400);
+    let end = n - wire + (shape.entry.octets - 1);
+    if shape.entry.code + shape.entry.top < unread[end] {
+        return Step::Refused(refusal::AUGMENTATION_NOT_2400);
     }
-    Found::Got(shape)
-}
-
-// The TSVCIS frame that a last octet x from 192 on names.
-fn tsvcis_frame(unread: &[u8], x: u8) -> Found
-    requires { ⌜ EndsFrom 192 (now unread) x ⌝ }
-    ensures { λ r. ⌜ r ≡ foundOf (lastFrame (now (unread .entry)) (length (now (unread .entry)))) ⌝ }
-{
-    let found = last_count(unread, x);
-    match found {
-        Found::Bad(number) => Found::Bad(number),
-        Found::Got(shape) => augmented_frame(unread, shape),
-    }
-}
-
-// The frame that a last octet x from 128 to 191 names, where comfort noise has to be whole among n unread octets.
-fn other_frame(n: usize, x: u8) -> Found
-    requires { ⌜ (128 ≤ x) × (x < 192) ⌝ }
-    ensures { λ r. ⌜ fitted n r ≡ fitted n (foundOf (named x)) ⌝ }
-{
-    if 159 < x {
-        if n < NOISE_OCTETS {
-            return Found::Bad(refusal::CUT);
+    if shape.entry.rate == 0 {
+        if frames == 0 {
+            return Step::Over(shape);
         }
-        return Found::Got(shape_noise());
+        return Step::Refused(refusal::COMFORT_NOISE_NOT_LAST);
     }
-    last_octet(x)
+    if shape.entry.rate == rate {
+        return Step::Over(shape);
+    }
+    if rate == 0 {
+        return Step::Over(shape);
+    }
+    Step::Refused(refusal::RATES_MIXED)
 }
 
-// The frame that a last octet x below 128 names. The walk needs only the own bits of the two rates, and those are arithmetic: a jump
-// would often be guessed wrong where octets are damaged.
-fn low_frame(x: u8) -> Shape
+// What a last octet below 128 names.
+fn low_row(x: u8) -> Row
     requires { ⌜ x < 128 ⌝ }
-    ensures { λ r. ⌜ Got r ≡ foundOf (named x) ⌝ }
+    ensures { λ r. ⌜ Ending.Names r ≡ named x ⌝ }
 {
-    let own = 1 + (x / 64) as u32;
     if x < 64 {
-        return with_2400(own);
+        return Row {
+            kind: Kind::Bps2400,
+            tc: 0,
+        };
     }
-    with_600(own)
+    Row {
+        kind: Kind::Bps600,
+        tc: 0,
+    }
 }
 
-// The frame that the unread octets end in, whole or not, where their last octet x is from 128 on; with what TSVCIS alone is asked.
-fn high_frame(unread: &[u8], x: u8) -> Found
-    requires { ⌜ EndsFrom 128 (now unread) x ⌝ }
-    ensures { λ r. ⌜ fitted (length (now (unread .entry))) r ≡ foundOf (lastFrame (now (unread .entry)) (length (now (unread .entry)))) ⌝ }
-{
-    if 191 < x {
-        return tsvcis_frame(unread, x);
-    }
-    other_frame(unread.len(), x)
-}
-
-// The step over a frame at the end of n unread octets, whole, with its own bit among those allowed: comfort noise is last, and a
-// coder frame stands before none of another rate. (What is left is subtracted here, where the compiler may know the frame's octets;
-// where its ways have joined, it knows none.)
-fn admit(n: usize, shape: Shape, allowed: u32) -> Stepped
-    ensures { λ r. ⌜ r ≡ stepped n (rated allowed (fitShape n shape)) ⌝ }
-{
-    if n < shape.wire {
-        return Stepped::Bad(refusal::CUT);
-    }
-    if allowed & shape.own != 0 {
-        let left = n - shape.wire;
-        return Stepped::Over(shape, left);
-    }
-    if shape.wire == NOISE_OCTETS {
-        return Stepped::Bad(refusal::NOISE_NOT_LAST);
-    }
-    Stepped::Bad(refusal::MIXED_RATES)
-}
-
-// What may stand where nothing is read yet, in bits.
-pub fn anything() -> u32
-    ensures { λ r. ⌜ r ≡ allowed [] ⌝ }
-{
-    15
-}
-
-// The walk's step: over the frame that the unread octets end in, where what was read behind it allows these bits; or the refusal, in
-// document 01's order. Frames of 2400 and 600 bps, the commonest, are admitted by themselves, with their octets known.
-pub fn step(unread: &[u8], allowed: u32) -> Stepped
-    ensures { λ r. ⌜ r ≡ stepped (length (now (unread .entry))) (foundOf (barred allowed (lastFrame (now (unread .entry)) (length (now (unread .entry)))))) ⌝ }
+// The step over the frame that the unread octets end in. The commonest ends, which one octet names, go ahead by themselves.
+fn next_frame(unread: &[u8], frames: usize, rate: u32) -> Step
+    ensures { λ r. ⌜ r ≡ stepOf (beside frames rate (lastFrame (now (unread .entry)) (length (now (unread .entry))))) ⌝ }
 {
     let n = unread.len();
-    if n == 0 {
-        return Stepped::Bad(refusal::CUT);
+    if 0 < n {
+        let x = unread[n - 1];
+        if x < 128 {
+            let row = low_row(x);
+            return admit(unread, row, frames, rate);
+        }
+        if 159 < x {
+            if x < 192 {
+                let row = Row {
+                    kind: Kind::ComfortNoise,
+                    tc: 0,
+                };
+                return admit(unread, row, frames, rate);
+            }
+            if x < 255 {
+                let short = (x as u16) - 177;
+                let row = Row {
+                    kind: Kind::Tsvcis,
+                    tc: short,
+                };
+                return admit(unread, row, frames, rate);
+            }
+        }
     }
-    let x = unread[n - 1];
-    if x < 128 {
-        return admit(n, low_frame(x), allowed);
+    let ending = identify(unread);
+    match ending {
+        Ending::Refused(number) => Step::Refused(number),
+        Ending::Names(row) => admit(unread, row, frames, rate),
     }
-    let found = high_frame(unread, x);
-    match found {
-        Found::Bad(number) => Stepped::Bad(number),
-        Found::Got(shape) => admit(n, shape, allowed),
+}
+
+// The walk over a payload that is not too long, from its end to its front.
+fn walk_back(payload: &[u8]) -> Walked
+    requires { ⌜ length (now payload) ≤ 1400 ⌝ }
+    ensures { λ r. ⌜ r ≡ walkedOf (readOf (now (payload .entry))) ⌝ }
+{
+    let mut unread = payload.len();
+    let mut frames: usize = 0;
+    let mut coders: u32 = 0;
+    let mut octets: usize = 0;
+    let mut rate: u32 = 0;
+    while 0 < unread {
+        let step = next_frame(&payload[..unread], frames, rate);
+        match step {
+            Step::Refused(number) => {
+                return Walked::Refused(Refusal {
+                    number,
+                    place: unread,
+                });
+            }
+            Step::Over(shape) => {
+                unread -= shape.wire;
+                frames += 1;
+                octets += shape.body;
+                if shape.entry.rate != 0 {
+                    coders += 1;
+                    rate = shape.entry.rate;
+                }
+            }
+        }
     }
+    Walked::Whole(Summary {
+        frames,
+        octets,
+        rate,
+        ticks: coders * ticks_of_rate(rate),
+    })
+}
+
+// The walk: what a payload holds, or its refusal.
+pub fn walk(payload: &[u8]) -> Walked
+    ensures { λ r. ⌜ Walks (now (payload .entry)) r ⌝ }
+{
+    if MOST_OCTETS < payload.len() {
+        return Walked::Refused(Refusal {
+            number: refusal::TOO_LONG,
+            place: MOST_OCTETS,
+        });
+    }
+    walk_back(payload)
 }

@@ -1,45 +1,55 @@
--- What the public functions answer, in document 01's numbers: "A refusal returns its number and a place, reports 0 rows and 0
--- octets"; where nothing is refused, number and place are 0.
+-- What the public functions answer, and the numbers of each case (docs/FORMAT.md, "Refusals").
+use mathlib.Core.List.{List}
 use Prim.Native.Nat.{ℕ}
 use lib.ListN.{length}
-use Rattle.wire.specs.Frame.{octetsOf}
-use Rattle.writer.specs.Rows.{Rows, held, refused, bodyOctets, wireOctets}
-use Rattle.writer.specs.Write.{Outcome, wrote, refuses}
+use Rattle.refusal.specs.Report.{Report, accepted, refusedWith, refusal}
+use Rattle.wire.specs.Frame.{Frame, bodyOctets, wireOctets, sumOf, octetsOf}
+use Rattle.wire.specs.declared.Row.{Row}
+use Rattle.writer.specs.Rows.{Outcome, passed, refused}
+use Rattle.writer.specs.declared.Totals.{Totals}
 use Rattle.writer.specs.declared.RowCheck.{RowCheck}
 use Rattle.writer.specs.declared.RowCheck.the-variants.{Sound, Refused as RowsRefused}
 use Rattle.writer.specs.declared.Writing.{Writing}
 use Rattle.writer.specs.declared.Writing.the-variants.{Written, Refused}
 
--- what a writing reports
-pub record Report : Type 0 where
-  pub number : ℕ
-  pub place : ℕ
-  pub octets : ℕ
+-- ---- the checks of rows alone
 
--- the numbers of each answer of the writer
-abbrev pub reportOf : Writing → Report
-reportOf (Written m) = record { number = 0; place = 0; octets = m }
-reportOf (Refused x) = record { number = x .number; place = x .place; octets = 0 }
+-- rows that are in order: how many, the octets of their bodies, and their octets on the wire
+abbrev pub totals : List Row → Totals
+totals xs = record { rows = length xs; bodies = sumOf bodyOctets xs; wire = sumOf wireOctets xs }
 
--- the writer's answer to an outcome
-abbrev pub answerOf : Outcome → Writing
-answerOf (wrote fs) = Written (length (octetsOf fs))
-answerOf (refuses n place) = Refused (record { number = n; place = place })
+-- "0 rows and 0 octets"
+abbrev pub noTotals : Totals
+noTotals = record { rows = 0; bodies = 0; wire = 0 }
 
--- what the checks of rows alone report: the rows, the octets of their bodies, and their octets on the wire
-pub record RowReport : Type 0 where
-  pub number : ℕ
-  pub place : ℕ
-  pub rows : ℕ
-  pub bodies : ℕ
-  pub wire : ℕ
+-- the answer of these checks
+abbrev pub rowCheckOf : Outcome (List Row) → RowCheck
+rowCheckOf (passed xs) = Sound (totals xs)
+rowCheckOf (refused n place) = RowsRefused (refusal n place)
 
--- the numbers of each answer of these checks
-abbrev pub rowReportOf : RowCheck → RowReport
-rowReportOf (Sound t) = record { number = 0; place = 0; rows = t .rows; bodies = t .bodies; wire = t .wire }
-rowReportOf (RowsRefused x) = record { number = x .number; place = x .place; rows = 0; bodies = 0; wire = 0 }
+-- the numbers of what these checks come to
+abbrev pub rowsReport : Outcome (List Row) → Report Totals
+rowsReport (passed xs) = accepted (totals xs)
+rowsReport (refused n place) = refusedWith noTotals (refusal n place)
 
--- the answer of these checks to what they find
-abbrev pub rowAnswerOf : Rows → RowCheck
-rowAnswerOf (held xs) = Sound (record { rows = length xs; bodies = bodyOctets xs; wire = wireOctets xs })
-rowAnswerOf (refused n place) = RowsRefused (record { number = n; place = place })
+-- the numbers of each case of their answer
+abbrev pub rowCheckReport : RowCheck → Report Totals
+rowCheckReport (Sound t) = accepted t
+rowCheckReport (RowsRefused x) = refusedWith noTotals x
+
+-- ---- the writer
+
+-- the writer's answer
+abbrev pub writingOf : Outcome (List Frame) → Writing
+writingOf (passed fs) = Written (length (octetsOf fs))
+writingOf (refused n place) = Refused (refusal n place)
+
+-- the numbers of what a writing comes to: the octets written, 0 under a refusal
+abbrev pub writeReport : Outcome (List Frame) → Report ℕ
+writeReport (passed fs) = accepted (length (octetsOf fs))
+writeReport (refused n place) = refusedWith 0 (refusal n place)
+
+-- the numbers of each case of its answer
+abbrev pub writingReport : Writing → Report ℕ
+writingReport (Written m) = accepted m
+writingReport (Refused x) = refusedWith 0 x

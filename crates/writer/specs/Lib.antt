@@ -1,6 +1,5 @@
 pub mod Rows
 pub mod Write
-pub mod Layouts
 pub mod Answers
-pub mod Stages
 pub mod Promise
+pub mod Stages

@@ -1,87 +1,62 @@
--- Document 01, "Writer": the checks that concern rows alone, in its order: 11; 1 if there are more than 200 rows; row by row
--- 12, 13, 6, 8; 1 for the total.
-use mathlib.Core.Bool.{cond}
+-- The checks of rows alone (docs/FORMAT.md, "Writing"), in their order: 11; 1 if there are more than 200 rows; row by row 12, 13, 6, 8;
+-- 1 for the total.
+use mathlib.Core.Bool.{Bool, false, cond, not, _&&_, _||_}
 use mathlib.Core.List.{List, [], _∷_, _++_}
-use Prim.Native.Nat.{ℕ, _+_, _/_, _%_}
-use native.Mathlib.Decide.{ℕ-discrete, decLe}
+use mathlib.Core.Option.{Option, none, some}
+use Prim.Native.Nat.{ℕ, _/_, _%_}
 use lib.Dec.{ltb, eqb}
 use lib.ListN.{length}
-use Rattle.refusal.specs.Numbers.{tooLong, oddRows, unknown, wrongTc}
-use Rattle.wire.specs.Frame.{Kind, bps2400, bps1200, bps600, noise, tsvcis, LegalTc, number, size, rate, wireLength}
-use Rattle.wire.specs.Walk.{Ending, bad, got, beside}
+use Rattle.refusal.specs.Numbers.{tooLong, comfortNoiseNotLast, ratesMixed, oddRows, unknown, wrongTc}
+use Rattle.wire.specs.Frame.{table, kindOf, row, rate, wireOctets, sumOf}
+use Rattle.wire.specs.Walk.{isNoise}
+use Rattle.wire.specs.declared.Kind.{Kind}
+use Rattle.wire.specs.declared.Row.{Row}
 
--- "row": the kind and the TC of a frame
-pub record Row : Type 0 where
-  pub kind : Kind
-  pub tc : ℕ
+-- what checks come to: what they passed, or a refusal's number and place
+pub data Outcome (A : Type 0) : Type 0 where
+  passed : A → Outcome A
+  refused : ℕ → ℕ → Outcome A
 
--- both of two things are so
-abbrev pub both : {A B : Type 0} → Dec A → Dec B → Dec (A × B)
-both (yes a) (yes b) = yes (a, b)
-both (yes a) (no n) = no (λ p. n (p .1))
-both (no n) b = no (λ p. n (p .0))
+-- one check: this refusal if the test holds, else what the rest comes to
+abbrev pub refuseIf : {A : Type 0} → Bool → ℕ → ℕ → Outcome A → Outcome A
+refuseIf test n place rest = cond test (refused n place) rest
 
--- "TC wrong for the kind" or not: the test of wire's `LegalTc`
-unfoldable pub legalTc : (k : Kind) (t : ℕ) → Dec (LegalTc k t)
-legalTc bps2400 t = ℕ-discrete t 0
-legalTc bps1200 t = ℕ-discrete t 0
-legalTc bps600 t = ℕ-discrete t 0
-legalTc noise t = ℕ-discrete t 0
-legalTc tsvcis t = both (decLe 1 t) (decLe t 255)
+-- further checks, of what was passed
+abbrev pub andThen : {A B : Type 0} → Outcome A → (A → Outcome B) → Outcome B
+andThen (passed x) rest = rest x
+andThen (refused n place) rest = refused n place
 
--- a row of the kind and TC, or 13
-abbrev pub tcTested : (k : Kind) (t : ℕ) → Dec (LegalTc k t) → Ending
-tcTested k t (yes l) = got k t
-tcTested k t (no n) = bad wrongTc
+-- "TC wrong for the kind": below its least or over its most
+abbrev pub isWrongTc : Kind → ℕ → Bool
+isWrongTc k t = ltb t (table k .least) || ltb (table k .most) t
 
--- 13 "TC wrong for the kind"
-unfoldable pub tcOf : Kind → ℕ → Ending
-tcOf k t = tcTested k t (legalTc k t)
+-- a rate "differs from an earlier one"
+abbrev pub differs : ℕ → List Row → Bool
+differs r [] = false
+differs r (x ∷ earlier) = not (eqb (rate x) r) || differs r earlier
 
--- what the two numbers of a row say: 12 "unknown kind", 13, or the kind and TC of its frame
-unfoldable pub rowOf : ℕ → ℕ → Ending
-rowOf n t =
-    cond (eqb n (number bps2400)) (tcOf bps2400 t)
-    (cond (eqb n (number bps1200)) (tcOf bps1200 t)
-    (cond (eqb n (number bps600)) (tcOf bps600 t)
-    (cond (eqb n (number noise)) (tcOf noise t)
-    (cond (eqb n (number tsvcis)) (tcOf tsvcis t) (bad unknown)))))
+-- "row by row 12, 13, 6, 8": the row of this kind, if there is one, and this TC, behind the earlier rows and before `later` numbers.
+-- 6 "names the comfort noise row that another row follows; 8 the first row whose rate differs from an earlier one"
+unfoldable pub rowOf : List Row → ℕ → Option Kind → ℕ → Outcome Row
+rowOf earlier later none t = refused unknown (length earlier)
+rowOf earlier later (some k) t =
+    refuseIf (isWrongTc k t) wrongTc (length earlier)
+    (refuseIf (isNoise (row k t) && ltb 0 later) comfortNoiseNotLast (length earlier)
+    (refuseIf (not (isNoise (row k t)) && differs (table k .rate) earlier) ratesMixed (length earlier)
+    (passed (row k t))))
 
--- "m being the lengths of the bodies added up"
-abbrev pub bodyOctets : List Row → ℕ
-bodyOctets [] = 0
-bodyOctets (x ∷ xs) = size (x .kind) + x .tc + bodyOctets xs
-
--- "its octets total": what frames of these kinds and TCs take on the wire
-abbrev pub wireOctets : List Row → ℕ
-wireOctets [] = 0
-wireOctets (x ∷ xs) = wireLength (x .kind) (x .tc) + wireOctets xs
-
--- the rows that a list of numbers holds, or a refusal's number and place
-pub data Rows : Type 0 where
-  held : List Row → Rows
-  refused : ℕ → ℕ → Rows
-
--- the next row's refusal, at its place behind the rows passed; or the rest goes on with that row
-abbrev pub passRow : List Row → Ending → (Row → Rows) → Rows
-passRow passed (bad n) rest = refused n (length passed)
-passRow passed (got k t) rest = rest (record { kind = k; tc = t })
-
--- "row by row 12, 13, 6, 8": `passed` are the rows before, and s is the rate of the last of them, 0 where there is none. 6 and 8 are
--- wire's `beside`. 6 "names the comfort noise row that another row follows", so the rows passed are of one rate and 8 is "the
--- first row whose rate differs from an earlier one". (No list of odd length gets here.)
-abbrev pub rowByRow : List Row → ℕ → List ℕ → Rows
-rowByRow passed s [] = held passed
-rowByRow passed s (n ∷ []) = held passed
-rowByRow passed s (n ∷ t ∷ rest) = passRow passed (beside (length rest) s (rowOf n t)) (λ x. rowByRow (passed ++ (x ∷ [])) (rate (x .kind)) rest)
+-- the rows that numbers hold, behind the earlier ones. (No list of odd length gets here.)
+abbrev pub rowByRow : List Row → List ℕ → Outcome (List Row)
+rowByRow earlier [] = passed earlier
+rowByRow earlier (n ∷ []) = passed earlier
+rowByRow earlier (n ∷ t ∷ rest) = andThen (rowOf earlier (length rest) (kindOf n) t) (λ x. rowByRow (earlier ++ (x ∷ [])) rest)
 
 -- "1 for the total": more than 1,400 octets on the wire
-abbrev pub totalOf : Rows → Rows
-totalOf (held xs) = cond (ltb 1400 (wireOctets xs)) (refused tooLong 1400) (held xs)
-totalOf (refused n place) = refused n place
+abbrev pub total : List Row → Outcome (List Row)
+total xs = refuseIf (ltb 1400 (sumOf wireOctets xs)) tooLong 1400 (passed xs)
 
--- the checks that concern rows alone: "11; 1 if there are more than 200 rows; then row by row 12, 13, 6, 8; 1 for the total"
-unfoldable pub checkOf : List ℕ → Rows
+-- "11; 1 if there are more than 200 rows; then row by row 12, 13, 6, 8; 1 for the total"
+unfoldable pub checkOf : List ℕ → Outcome (List Row)
 checkOf ns =
-    cond (eqb (length ns % 2) 1) (refused oddRows (length ns))
-    (cond (ltb 200 (length ns / 2)) (refused tooLong 1400) (totalOf (rowByRow [] 0 ns)))
+    refuseIf (eqb (length ns % 2) 1) oddRows (length ns)
+    (refuseIf (ltb 200 (length ns / 2)) tooLong 1400 (andThen (rowByRow [] ns) total))

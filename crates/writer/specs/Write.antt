@@ -1,48 +1,49 @@
--- Document 01, "Writer": behind the checks of the rows, 14 if the bodies' length is not the sum, 3 at the first bad body end, 10;
--- or the frames that the rows and bodies describe, whose octets are written.
-use mathlib.Core.Bool.{cond}
+-- The writer behind the checks of the rows (docs/FORMAT.md, "Writing"): 14 if the bodies' length is not the sum, 3 at the first bad
+-- body end, 10; or the frames of these rows and bodies, whose octets are written.
+use mathlib.Core.Bool.{cond, not}
 use mathlib.Core.List.{List, [], _∷_, _++_}
-use mathlib.Core.Option.{Option, none, some}
 use Prim.Native.Nat.{ℕ, _+_, _-_}
 use lib.Dec.{ltb, eqb}
 use lib.ListN.{length, getD, take, drop}
-use Rattle.refusal.specs.Numbers.{foreignBits, shortBuffer, wrongLength}
-use Rattle.wire.specs.Frame.{Frame, size, top, octetsOf}
-use Rattle.writer.specs.Rows.{Row, Rows, held, refused, bodyOctets, checkOf}
+use Rattle.refusal.specs.Numbers.{reservedBits, octetsTooShort, wrongLength}
+use Rattle.wire.specs.Frame.{Frame, base, top, bodyOctets, sumOf, octetsOf}
+use Rattle.wire.specs.declared.Row.{Row}
+use Rattle.writer.specs.Rows.{Outcome, passed, refused, refuseIf, andThen, checkOf}
+use Rattle.writer.specs.declared.BadEnd.{BadEnd}
+use Rattle.writer.specs.declared.BadEnd.the-variants.{At, Nowhere}
 
 -- "Bodies stand one after another": the frames of these rows, their bodies cut from the lent octets
 abbrev pub framesOf : List Row → List ℕ → List Frame
 framesOf [] bs = []
-framesOf (x ∷ xs) bs = record { kind = x .kind; tc = x .tc; body = take (size (x .kind) + x .tc) bs } ∷ framesOf xs (drop (size (x .kind) + x .tc) bs)
+framesOf (x ∷ xs) bs = record { row = x; body = take (bodyOctets x) bs } ∷ framesOf xs (drop (bodyOctets x) bs)
 
--- "the first bad body end": its index, where the first of these bodies starts at a; "the end of a kind 5 body is its seventh octet"
-abbrev pub badEnd : ℕ → List Frame → Option ℕ
-badEnd a [] = none
+-- "the first bad body end", where the first of these bodies starts at a; "the end of a kind 5 body is its seventh octet"
+abbrev pub badEnd : ℕ → List Frame → BadEnd
+badEnd a [] = Nowhere
 badEnd a (f ∷ fs) =
-    cond (ltb (top (f .kind)) (getD (f .body) (size (f .kind) - 1) 0)) (some (a + (size (f .kind) - 1)))
-    (badEnd (a + (size (f .kind) + f .tc)) fs)
+    cond (ltb (top (f .row)) (getD (f .body) (base (f .row) - 1) 0)) (At (a + (base (f .row) - 1)))
+    (badEnd (a + bodyOctets (f .row)) fs)
 
--- what a writing comes to: the frames whose octets are written, or a refusal's number and place
-pub data Outcome : Type 0 where
-  wrote : List Frame → Outcome
-  refuses : ℕ → ℕ → Outcome
+-- "3 at the first bad body end"
+abbrev pub refuseEnd : {A : Type 0} → BadEnd → Outcome A → Outcome A
+refuseEnd (At i) rest = refused reservedBits i
+refuseEnd Nowhere rest = rest
 
--- "3 at the first bad body end; 10", its place the octets needed
-abbrev pub endsOf : Option ℕ → List Frame → ℕ → Outcome
-endsOf (some i) fs room = refuses foreignBits i
-endsOf none fs room = cond (ltb room (length (octetsOf fs))) (refuses shortBuffer (length (octetsOf fs))) (wrote fs)
+-- 10, its place the octets needed, or these frames
+abbrev pub roomFor : List Frame → ℕ → Outcome (List Frame)
+roomFor fs room = refuseIf (ltb room (length (octetsOf fs))) octetsTooShort (length (octetsOf fs)) (passed fs)
 
--- "14 if the bodies' length is not the sum", its place the sum
-abbrev pub bodiesChecked : Rows → List ℕ → ℕ → Outcome
-bodiesChecked (refused n place) bs room = refuses n place
-bodiesChecked (held xs) bs room =
-    cond (eqb (length bs) (bodyOctets xs)) (endsOf (badEnd 0 (framesOf xs bs)) (framesOf xs bs) room) (refuses wrongLength (bodyOctets xs))
+-- "14 if the bodies' length is not the sum; 3 at the first bad body end; 10"
+abbrev pub framed : List Row → List ℕ → ℕ → Outcome (List Frame)
+framed xs bs room =
+    refuseIf (not (eqb (length bs) (sumOf bodyOctets xs))) wrongLength (sumOf bodyOctets xs)
+    (refuseEnd (badEnd 0 (framesOf xs bs)) (roomFor (framesOf xs bs) room))
 
--- "Writer", the whole order: rows, bodies, and the octets that there is room for
-unfoldable pub writeOf : List ℕ → List ℕ → ℕ → Outcome
-writeOf ns bs room = bodiesChecked (checkOf ns) bs room
+-- "Writer", the whole order: rows, bodies, room for the octets
+unfoldable pub writeOf : List ℕ → List ℕ → ℕ → Outcome (List Frame)
+writeOf ns bs room = andThen (checkOf ns) (λ xs. framed xs bs room)
 
 -- "An accepted writing .. fills the first places .. and changes nothing beyond"; a refusal "leaves all lent memory unchanged"
-abbrev pub outOf : Outcome → List ℕ → List ℕ
-outOf (wrote fs) out = octetsOf fs ++ drop (length (octetsOf fs)) out
-outOf (refuses n place) out = out
+abbrev pub outOf : Outcome (List Frame) → List ℕ → List ℕ
+outOf (passed fs) out = octetsOf fs ++ drop (length (octetsOf fs)) out
+outOf (refused n place) out = out

@@ -1,4 +1,4 @@
-//! The only module with unsafe code: include/moult.h's declarations, and each function over slices.
+//! The only module with unsafe code: the declarations of moult.h, and each function over slices.
 //!
 //! Every call is sound for any slices: the library reads and writes within the lengths lent and
 //! keeps no pointer.
@@ -7,9 +7,11 @@
 #[repr(C)]
 pub struct Reading {
     pub number: u32,
+    pub rate: u32,
     pub place: usize,
     pub rows: usize,
     pub octets: usize,
+    pub ticks: usize,
 }
 
 #[repr(C)]
@@ -40,14 +42,18 @@ pub struct Part {
     pub length: usize,
 }
 
+/// First, second and third rate, and tcmax.
+pub type Settings = [u16; 4];
+
 #[repr(C)]
 pub struct SettingsReading {
     pub number: u32,
     pub place: usize,
-    pub settings: crate::Settings,
+    pub settings: Settings,
 }
 
 unsafe extern "C" {
+    fn moult_version() -> u32;
     fn moult_count(payload: *const u8, n: usize) -> i32;
     fn moult_read(
         payload: *const u8,
@@ -57,6 +63,7 @@ unsafe extern "C" {
         bodies: *mut u8,
         bodies_n: usize,
     ) -> Reading;
+    fn moult_body_octets(kind: u16, tc: u16) -> usize;
     fn moult_write(
         rows: *const u16,
         rows_n: usize,
@@ -100,6 +107,10 @@ unsafe extern "C" {
     ) -> Writing;
 }
 
+pub fn version() -> u32 {
+    unsafe { moult_version() }
+}
+
 pub fn count(payload: &[u8]) -> i32 {
     unsafe { moult_count(payload.as_ptr(), payload.len()) }
 }
@@ -115,6 +126,10 @@ pub fn read(payload: &[u8], rows: &mut [u16], bodies: &mut [u8]) -> Reading {
             bodies.len(),
         )
     }
+}
+
+pub fn body_octets(kind: u16, tc: u16) -> usize {
+    unsafe { moult_body_octets(kind, tc) }
 }
 
 pub fn write(rows: &[u16], bodies: &[u8], out: &mut [u8]) -> Writing {
@@ -158,17 +173,8 @@ pub fn settings_read(text: &[u8]) -> SettingsReading {
     unsafe { moult_settings_read(text.as_ptr(), text.len()) }
 }
 
-pub fn settings_write(settings: crate::Settings, out: &mut [u8]) -> Writing {
-    unsafe {
-        moult_settings_write(
-            settings.first,
-            settings.second,
-            settings.third,
-            settings.tcmax,
-            out.as_mut_ptr(),
-            out.len(),
-        )
-    }
+pub fn settings_write([first, second, third, tcmax]: Settings, out: &mut [u8]) -> Writing {
+    unsafe { moult_settings_write(first, second, third, tcmax, out.as_mut_ptr(), out.len()) }
 }
 
 pub fn unpack(mode: u8, body: &[u8], fields: &mut [u16]) -> Writing {

@@ -1,45 +1,67 @@
-//! Safe calls into the proved TSVCIS payload library (RFC 8817).
-//!
-//! Most functions answer with a value or with a [`Refusal`], which has document 01's number and
-//! place; [`count`] gives the [`Reason`] alone. [`augmentation`], [`frame_or`] and [`frames`] show
-//! parts of the slices lent and refuse nothing. A refusal changes no lent memory; an acceptance
-//! changes the first places that it reports and nothing beyond. Nothing is allocated or kept.
+//! Safe calls into moult, the proved library that reads and writes RTP payloads of MELPe and TSVCIS
+//! speech frames (RFC 8817), and tells their time, setting text and 600 bps fields (RFC 8130).
 //!
 //! ```
 //! let payload = [0, 0, 0, 0, 0, 0, 0, 0x00, 0xA0]; // a 2400 bps frame, then comfort noise
-//! let mut rows = [0; 400];
-//! let mut bodies = [0; 1400];
-//! let read = moult::read(&payload, &mut rows, &mut bodies).unwrap();
-//! assert_eq!((read.rows, read.octets), (2, 9));
-//! let frames: Vec<_> = moult::frames(&rows[..4], &bodies[..9]).collect();
-//! assert_eq!(frames[0], moult::Frame { kind: moult::Kind::Rate2400, body: &[0; 7] });
-//! assert_eq!(frames[1], moult::Frame { kind: moult::Kind::ComfortNoise, body: &[0, 0] });
-//!
-//! let mut out = [0; 1400];
-//! assert_eq!(moult::write(&rows[..4], &bodies[..9], &mut out), Ok(9));
-//! assert_eq!(out[..9], payload);
+//! let mut rows = [0; moult::MAX_NUMBERS];
+//! let mut bodies = [0; moult::MAX_OCTETS];
+//! match moult::read(&payload, &mut rows, &mut bodies) {
+//!     Ok(reading) => {
+//!         println!("{} frames, {}", reading.rows, reading.ticks); // 2 frames, 180 ticks
+//!         for frame in reading.frames(&rows, &bodies) {
+//!             let frame = frame.expect("these are the buffers that were read into");
+//!             println!("{}: {:?}", frame.kind, frame.body);
+//!         }
+//!     }
+//!     Err(refusal) => eprintln!("{refusal}"),
+//! }
 //! ```
+//!
+//! Most functions answer with a value or with a [`Refusal`], which says why and where; [`count`]
+//! gives the [`Reason`] alone. [`augmentation`] and [`frame_or`] show parts of the slices lent and
+//! refuse nothing. A refusal changes no lent memory; an acceptance changes the first places that it
+//! reports and nothing beyond. Nothing is allocated or kept, and any thread may call at any time.
+//!
+//! A newer library may give reasons and kinds that this crate has no name for: they come as
+//! [`Reason::Other`] and [`Kind::Other`], with their numbers, and are handled like any other.
+//!
+//! # The library
+//!
+//! The build links the static library whose path MOULT_LIB gives or, where that is not set, the
+//! installed one that `pkg-config moult` finds.
+#![no_std]
 #![deny(unsafe_code)]
 #![warn(missing_docs)]
 
 mod ffi;
 mod fields;
 mod frames;
+mod numbered;
 mod payload;
 mod refusal;
 mod settings;
 mod time;
+mod version;
 mod views;
 
 pub use fields::{pack, unpack};
-pub use frames::{Frame, Frames, Kind, frames};
-pub use payload::{Read, count, read, write};
-pub use refusal::{Reason, Refusal};
-pub use settings::{Settings, read_settings, write_settings};
+pub use frames::{Frame, Frames, FramesError, Kind, body_octets, frames};
+pub use payload::{Reading, count, read, write};
+pub use refusal::{Call, Reason, Refusal};
+pub use settings::Settings;
 pub use time::{Millis, Ticks, packet_ticks, ptime};
+pub use version::{Version, version};
 pub use views::{Shown, augmentation, frame_or};
 
 /// Most octets of a payload.
 pub const MAX_OCTETS: usize = 1400;
 /// Most frames of a payload.
 pub const MAX_FRAMES: usize = 200;
+/// The numbers of that many rows.
+pub const MAX_NUMBERS: usize = 2 * MAX_FRAMES;
+/// Octets that hold any setting text written.
+pub const MAX_SETTINGS: usize = 31;
+/// Numbers that hold the fields of any mode.
+pub const MAX_FIELDS: usize = 11;
+/// Octets of a 600 bps body.
+pub const BODY_600: usize = 7;

@@ -2,15 +2,34 @@
 #![forbid(unsafe_code)]
 
 use crate::ffi;
-use crate::refusal::{Reason, Refusal, answer};
+use crate::frames::{Frames, frames};
+use crate::refusal::{Call, Reason, Refusal, answer};
+use crate::time::Ticks;
 
-/// What an accepted reading has put into the lent buffers.
-#[derive(Clone, Copy, Debug, PartialEq, Eq)]
-pub struct Read {
+/// What an accepted reading has put into the lent buffers, and what it says of the payload.
+#[derive(Clone, Copy, Debug, PartialEq, Eq, Hash)]
+#[non_exhaustive]
+pub struct Reading {
     /// Rows, two numbers each.
     pub rows: usize,
     /// Body octets.
     pub octets: usize,
+    /// The rate of the coder frames, 2400, 1200 or 600; none where there are no coder frames.
+    pub rate: Option<u32>,
+    /// How long the coder frames last.
+    pub ticks: Ticks,
+}
+
+impl Reading {
+    /// The frames of this reading, from the buffers that were lent to it: see
+    /// [`frames`](crate::frames).
+    ///
+    /// Buffers that are shorter than what was read give an error for the last item.
+    pub fn frames<'a>(&self, rows: &'a [u16], bodies: &'a [u8]) -> Frames<'a> {
+        let numbers = rows.len().min(2 * self.rows);
+        let octets = bodies.len().min(self.octets);
+        frames(&rows[..numbers], &bodies[..octets])
+    }
 }
 
 /// The number of frames, 0 to 200. Only the empty payload has none.
@@ -23,23 +42,27 @@ pub struct Read {
 ///
 /// # Errors
 ///
-/// As [`read`], but for the room: [`Reason`] 1 to 8.
+/// As [`read`], but for the room, and without a place.
 pub fn count(payload: &[u8]) -> Result<usize, Reason> {
     let counted = ffi::count(payload);
-    usize::try_from(counted).map_err(|_| Reason::of_number(counted.unsigned_abs()))
+    usize::try_from(counted).map_err(|_| counted.unsigned_abs().into())
 }
 
 /// Reads a payload: of each frame, oldest first, kind and TC into `rows` and its body into
-/// `bodies`. 400 numbers and 1,400 octets are enough for any payload.
+/// `bodies`. [`MAX_NUMBERS`](crate::MAX_NUMBERS) numbers and [`MAX_OCTETS`](crate::MAX_OCTETS)
+/// octets are enough for any payload.
 ///
 /// ```
-/// use moult::{Reason, Refusal};
+/// use moult::{Reason, Ticks};
 /// let (mut rows, mut bodies) = ([0; 2], [0; 8]);
 /// let tsvcis = [0, 0, 0, 0, 0, 0, 0, 0xAA, 0x01, 0xFF];
-/// assert_eq!(moult::read(&tsvcis, &mut rows, &mut bodies), Ok(moult::Read { rows: 1, octets: 8 }));
+/// let reading = moult::read(&tsvcis, &mut rows, &mut bodies).unwrap();
+/// assert_eq!((reading.rows, reading.octets), (1, 8));
+/// assert_eq!((reading.rate, reading.ticks), (Some(2400), Ticks(180)));
 /// assert_eq!((rows, bodies), ([5, 1], [0, 0, 0, 0, 0, 0, 0, 0xAA]));
-/// let refused = moult::read(&tsvcis, &mut [], &mut bodies);
-/// assert_eq!(refused, Err(Refusal { reason: Reason::NumbersTooShort, place: 1 }));
+///
+/// let refusal = moult::read(&tsvcis, &mut [], &mut bodies).unwrap_err();
+/// assert_eq!((refusal.reason, refusal.place), (Reason::NumbersTooShort, 1));
 /// ```
 ///
 /// # Errors
@@ -47,25 +70,27 @@ pub fn count(payload: &[u8]) -> Result<usize, Reason> {
 /// In this order: `TooLong`; from the last frame to the first, for each, `FrameCut` (255 alone),
 /// `LongCountZero`, `LongCountShortRange`, `ReservedBits`, `FrameCut`, `ComfortNoiseNotLast`,
 /// `AugmentationNot2400`, `RatesMixed`; `NumbersTooShort`, `OctetsTooShort`.
-pub fn read(payload: &[u8], rows: &mut [u16], bodies: &mut [u8]) -> Result<Read, Refusal> {
-    let reading = ffi::read(payload, rows, bodies);
-    let read = Read {
-        rows: reading.rows,
-        octets: reading.octets,
+pub fn read(payload: &[u8], rows: &mut [u16], bodies: &mut [u8]) -> Result<Reading, Refusal> {
+    let read = ffi::read(payload, rows, bodies);
+    let reading = Reading {
+        rows: read.rows,
+        octets: read.octets,
+        rate: Some(read.rate).filter(|rate| *rate != 0),
+        ticks: Ticks(read.ticks),
     };
-    answer(reading.number, reading.place, read)
+    answer(Call::Read, read.number, read.place, reading)
 }
 
 /// Writes the payload of `rows` (kind and TC of each frame) and `bodies` (one after another) into
-/// `out`, and gives its octets. 1,400 are enough for any payload.
+/// `out`, and gives its octets. [`MAX_OCTETS`](crate::MAX_OCTETS) are enough for any payload.
 ///
 /// ```
-/// use moult::{Reason, Refusal};
 /// let mut out = [0; 7];
 /// assert_eq!(moult::write(&[3, 0], &[0; 7], &mut out), Ok(7));
 /// assert_eq!(out, [0, 0, 0, 0, 0, 0, 0x40]);
-/// let refused = moult::write(&[3, 0, 1, 0], &[0; 14], &mut out);
-/// assert_eq!(refused, Err(Refusal { reason: Reason::RatesMixed, place: 1 }));
+///
+/// let refusal = moult::write(&[3, 0, 1, 0], &[0; 14], &mut out).unwrap_err();
+/// assert_eq!((refusal.reason, refusal.place), (moult::Reason::RatesMixed, 1));
 /// ```
 ///
 /// # Errors
@@ -75,5 +100,5 @@ pub fn read(payload: &[u8], rows: &mut [u16], bodies: &mut [u8]) -> Result<Read,
 /// `ReservedBits` at the first bad body end; `OctetsTooShort`.
 pub fn write(rows: &[u16], bodies: &[u8], out: &mut [u8]) -> Result<usize, Refusal> {
     let writing = ffi::write(rows, bodies, out);
-    answer(writing.number, writing.place, writing.octets)
+    answer(Call::Write, writing.number, writing.place, writing.octets)
 }

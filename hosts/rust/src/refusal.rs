@@ -1,131 +1,203 @@
 //! Why something is refused, and where.
 #![forbid(unsafe_code)]
 
-use std::fmt;
+use crate::numbered::numbered;
+use core::error::Error;
+use core::fmt;
 
-/// Why something is refused; the discriminant is document 01's number.
-///
-/// ```
-/// fn frames(payload: &[u8]) -> Result<usize, Box<dyn std::error::Error>> {
-///     Ok(moult::count(payload)?)
-/// }
-/// assert_eq!(frames(&[0; 6]).unwrap_err().to_string(), "refused 2: FrameCut");
-/// ```
-#[derive(Clone, Copy, Debug, PartialEq, Eq, Hash)]
-#[non_exhaustive]
-#[repr(u8)]
-pub enum Reason {
-    /// More than 1,400 octets or, in the writer, more than 200 rows. Place: 1400.
-    TooLong = 1,
-    /// Frame cut at the front. Place: octets still unread.
-    FrameCut = 2,
-    /// Reserved or foreign bits set. Place: unread; writer: index in the lent bodies, counted from
-    /// their start; fields: index in the body.
-    ReservedBits = 3,
-    /// Long count is 0. Place: unread.
-    LongCountZero = 4,
-    /// Long count of 15 to 77. Place: unread.
-    LongCountShortRange = 5,
-    /// Comfort noise not last. Place: unread; writer: row.
-    ComfortNoiseNotLast = 6,
-    /// Augmentation not behind 2400. Place: unread.
-    AugmentationNot2400 = 7,
-    /// Rates mixed. Place: unread; writer: row.
-    RatesMixed = 8,
-    /// Number list too short. Place: rows needed, or fields needed.
-    NumbersTooShort = 9,
-    /// Octet buffer too short. Place: octets needed.
-    OctetsTooShort = 10,
-    /// Odd row list. Place: its length.
-    OddRows = 11,
-    /// Unknown kind, rate or number of frames. Place: the writer's row, else 0.
-    Unknown = 12,
-    /// TC wrong for the kind. Place: row.
-    WrongTc = 13,
-    /// Length wrong. Place: length needed.
-    WrongLength = 14,
-    /// Setting text or settings wrong. Place: 0.
-    WrongSettings = 15,
-    /// Mode not 1 to 3. Place: 0.
-    WrongMode = 16,
-    /// Field too large. Place: field.
-    FieldTooLarge = 17,
-}
-
-const REASONS: [Reason; 17] = [
-    Reason::TooLong,
-    Reason::FrameCut,
-    Reason::ReservedBits,
-    Reason::LongCountZero,
-    Reason::LongCountShortRange,
-    Reason::ComfortNoiseNotLast,
-    Reason::AugmentationNot2400,
-    Reason::RatesMixed,
-    Reason::NumbersTooShort,
-    Reason::OctetsTooShort,
-    Reason::OddRows,
-    Reason::Unknown,
-    Reason::WrongTc,
-    Reason::WrongLength,
-    Reason::WrongSettings,
-    Reason::WrongMode,
-    Reason::FieldTooLarge,
-];
-
-impl Reason {
-    /// Document 01's number.
+numbered! {
+    /// Why something is refused.
+    ///
+    /// "Unread" is the number of octets from the payload's start up to the end of the refused frame:
+    /// payloads are read from the last frame to the first.
     ///
     /// ```
-    /// assert_eq!(moult::Reason::FieldTooLarge.number(), 17);
+    /// use moult::Reason;
+    /// assert_eq!(Reason::from(2), Reason::FrameCut);
+    /// assert_eq!(Reason::FrameCut.to_string(), "refusal 2: frame cut at the front");
+    /// assert_eq!(Reason::from(99), Reason::Other(99));
+    /// assert_eq!(Reason::Other(99).to_string(), "refusal 99");
     /// ```
-    pub fn number(self) -> u8 {
-        self as u8
-    }
-
-    pub(crate) fn of_number(number: u32) -> Reason {
-        let found = REASONS
-            .iter()
-            .find(|reason| u32::from(reason.number()) == number);
-        *found.expect("the library's refusals are numbered 1 to 17")
+    Reason: u32 {
+        /// More than 1,400 octets or, in the writer, more than 200 rows. Place: 1400.
+        TooLong = 1, "too long";
+        /// A frame is cut at the front. Place: unread.
+        FrameCut = 2, "frame cut at the front";
+        /// Reserved or foreign bits are set. Place: unread; writer: index in the lent bodies, counted
+        /// from their start; fields: index in the body.
+        ReservedBits = 3, "reserved or foreign bits set";
+        /// A long count is 0. Place: unread.
+        LongCountZero = 4, "long count is 0";
+        /// A long count is 15 to 77. Place: unread.
+        LongCountShortRange = 5, "long count of 15 to 77";
+        /// Comfort noise is not last. Place: unread; writer: row, from 0.
+        ComfortNoiseNotLast = 6, "comfort noise not last";
+        /// Augmentation is not behind a 2400 bps frame. Place: unread.
+        AugmentationNot2400 = 7, "augmentation not behind a 2400 bps frame";
+        /// Coder frames are of several rates. Place: unread; writer: row, from 0.
+        RatesMixed = 8, "rates mixed";
+        /// The number list is too short. Place: rows needed, or fields needed.
+        NumbersTooShort = 9, "number list too short";
+        /// The octet buffer is too short. Place: octets needed.
+        OctetsTooShort = 10, "octet buffer too short";
+        /// The row list has an odd length. Place: that length.
+        OddRows = 11, "odd row list";
+        /// The kind, rate or number of frames is unknown. Place: writer: row, from 0; else 0.
+        Unknown = 12, "unknown kind, rate or number of frames";
+        /// The TC is wrong for the kind. Place: row, from 0.
+        WrongTc = 13, "TC wrong for the kind";
+        /// A length is wrong. Place: length needed.
+        WrongLength = 14, "length wrong";
+        /// The setting text or the settings are wrong. Place: 0.
+        WrongSettings = 15, "setting text or settings wrong";
+        /// The mode of the fields is unknown. Place: 0.
+        WrongMode = 16, "mode not 1 to 3";
+        /// A field is too large for its width. Place: field, from 0.
+        FieldTooLarge = 17, "field too large";
     }
 }
 
 impl fmt::Display for Reason {
     fn fmt(&self, f: &mut fmt::Formatter<'_>) -> fmt::Result {
-        write!(f, "refused {}: {self:?}", self.number())
+        write!(f, "refusal {}", self.number())?;
+        match self.words() {
+            Some(words) => write!(f, ": {words}"),
+            None => Ok(()),
+        }
     }
 }
 
-impl std::error::Error for Reason {}
+impl Error for Reason {}
+
+/// The call that refused. It and the reason say what the place counts.
+#[derive(Clone, Copy, Debug, PartialEq, Eq, Hash)]
+#[non_exhaustive]
+pub enum Call {
+    /// [`read`](crate::read).
+    Read,
+    /// [`write`](crate::write).
+    Write,
+    /// [`packet_ticks`](crate::packet_ticks).
+    PacketTicks,
+    /// [`ptime`](crate::ptime).
+    Ptime,
+    /// [`Settings::read`](crate::Settings::read).
+    SettingsRead,
+    /// [`Settings::new`](crate::Settings::new) or [`Settings::write`](crate::Settings::write).
+    SettingsWrite,
+    /// [`unpack`](crate::unpack).
+    Unpack,
+    /// [`pack`](crate::pack).
+    Pack,
+}
 
 /// A refusal: why, and where or how much.
+///
+/// ```
+/// let refusal = moult::write(&[1, 0, 3, 0], &[0; 14], &mut [0; 14]).unwrap_err();
+/// assert_eq!((refusal.reason, refusal.place), (moult::Reason::RatesMixed, 1));
+/// assert_eq!(refusal.to_string(), "refusal 8: rates mixed, at row 1 (from 0)");
+/// ```
 #[derive(Clone, Copy, Debug, PartialEq, Eq, Hash)]
+#[non_exhaustive]
 pub struct Refusal {
     /// Why.
     pub reason: Reason,
     /// Where, or how much is needed: see [`Reason`].
     pub place: usize,
+    /// Which call refused.
+    pub call: Call,
+}
+
+impl Refusal {
+    /// The words before and behind the place, which say what it counts; none where it says nothing.
+    fn around_place(self) -> Option<(&'static str, &'static str)> {
+        Some(match (self.reason, self.call) {
+            (Reason::TooLong, Call::Write) => ("at most 200 rows and ", " octets are allowed"),
+            (Reason::TooLong, _) => ("at most ", " octets are allowed"),
+            (Reason::ReservedBits, Call::Write) => ("at octet ", " of the bodies (from 0)"),
+            (Reason::ReservedBits, Call::Unpack) => ("at octet ", " of the body (from 0)"),
+            (Reason::ComfortNoiseNotLast | Reason::RatesMixed, Call::Write)
+            | (Reason::Unknown | Reason::WrongTc, Call::Write) => ("at row ", " (from 0)"),
+            (
+                Reason::FrameCut
+                | Reason::ReservedBits
+                | Reason::LongCountZero
+                | Reason::LongCountShortRange
+                | Reason::ComfortNoiseNotLast
+                | Reason::AugmentationNot2400
+                | Reason::RatesMixed,
+                Call::Read | Call::PacketTicks,
+            ) => ("payload octets up to that frame's end: ", ""),
+            (Reason::NumbersTooShort, Call::Read) => ("rows needed: ", ""),
+            (Reason::NumbersTooShort, Call::Unpack) => ("fields needed: ", ""),
+            (Reason::OctetsTooShort, _) => ("octets needed: ", ""),
+            (Reason::OddRows, Call::Write) => ("its length: ", ""),
+            (Reason::WrongLength, Call::Write) => ("octets needed in the bodies: ", ""),
+            (Reason::WrongLength, Call::Unpack) => ("octets needed in the body: ", ""),
+            (Reason::WrongLength, Call::Pack) => ("fields needed: ", ""),
+            (Reason::FieldTooLarge, Call::Pack) => ("at field ", " (from 0)"),
+            (Reason::Unknown | Reason::WrongSettings | Reason::WrongMode, _) if self.place == 0 => {
+                return None;
+            }
+            _ => ("place ", ""),
+        })
+    }
 }
 
 impl fmt::Display for Refusal {
     fn fmt(&self, f: &mut fmt::Formatter<'_>) -> fmt::Result {
-        write!(
-            f,
-            "refused {} {}: {:?}",
-            self.reason.number(),
-            self.place,
-            self.reason
-        )
+        self.reason.fmt(f)?;
+        match self.around_place() {
+            Some((before, behind)) => write!(f, ", {before}{}{behind}", self.place),
+            None => Ok(()),
+        }
     }
 }
 
-impl std::error::Error for Refusal {}
+impl Error for Refusal {}
 
 /// The value where the number is 0, else the refusal.
-pub(crate) fn answer<T>(number: u32, place: usize, value: T) -> Result<T, Refusal> {
+pub(crate) fn answer<T>(call: Call, number: u32, place: usize, value: T) -> Result<T, Refusal> {
     if number == 0 {
         return Ok(value);
     }
-    let reason = Reason::of_number(number);
-    Err(Refusal { reason, place })
+    Err(Refusal {
+        reason: number.into(),
+        place,
+        call,
+    })
+}
+
+#[cfg(test)]
+mod tests {
+    extern crate std;
+    use super::*;
+    use std::string::ToString;
+
+    #[test]
+    fn a_number_that_only_the_library_knows() {
+        let refusal = answer(Call::Read, 99, 7, ()).unwrap_err();
+        assert_eq!((refusal.reason, refusal.place), (Reason::Other(99), 7));
+        assert_eq!(refusal.to_string(), "refusal 99, place 7");
+    }
+
+    /// A reason that has a name, from a call that has not given it so far.
+    #[test]
+    fn a_reason_new_to_the_call() {
+        let refusal = answer(Call::Ptime, 13, 7, ()).unwrap_err();
+        assert_eq!(
+            refusal.to_string(),
+            "refusal 13: TC wrong for the kind, place 7"
+        );
+    }
+
+    #[test]
+    fn numbers_are_named_once() {
+        for number in 0..=1000 {
+            let reason = Reason::from(number);
+            assert_eq!(reason.number(), number);
+            assert_eq!(reason.words().is_some(), (1..=17).contains(&number));
+        }
+    }
 }

@@ -2,15 +2,28 @@
 #![forbid(unsafe_code)]
 
 use crate::ffi;
-use crate::refusal::{Refusal, answer};
+use crate::refusal::{Call, Refusal, answer};
+use core::fmt;
 
 /// Clock ticks of 1/8000 second.
-#[derive(Clone, Copy, Debug, PartialEq, Eq, PartialOrd, Ord, Hash)]
+#[derive(Clone, Copy, Debug, Default, PartialEq, Eq, PartialOrd, Ord, Hash)]
 pub struct Ticks(pub usize);
 
 /// Milliseconds.
-#[derive(Clone, Copy, Debug, PartialEq, Eq, PartialOrd, Ord, Hash)]
+#[derive(Clone, Copy, Debug, Default, PartialEq, Eq, PartialOrd, Ord, Hash)]
 pub struct Millis(pub usize);
+
+impl fmt::Display for Ticks {
+    fn fmt(&self, f: &mut fmt::Formatter<'_>) -> fmt::Result {
+        write!(f, "{} ticks", self.0)
+    }
+}
+
+impl fmt::Display for Millis {
+    fn fmt(&self, f: &mut fmt::Formatter<'_>) -> fmt::Result {
+        write!(f, "{} ms", self.0)
+    }
+}
 
 /// The ticks that a payload's coder frames last; comfort noise adds none.
 ///
@@ -22,10 +35,15 @@ pub struct Millis(pub usize);
 ///
 /// # Errors
 ///
-/// As [`read`](crate::read), but for the room: [`Reason`](crate::Reason) 1 to 8.
+/// As [`read`](crate::read), but for the room.
 pub fn packet_ticks(payload: &[u8]) -> Result<Ticks, Refusal> {
     let time = ffi::packet_ticks(payload);
-    answer(time.number, time.place, Ticks(time.ticks))
+    answer(
+        Call::PacketTicks,
+        time.number,
+        time.place,
+        Ticks(time.ticks),
+    )
 }
 
 /// The ptime of 1 to 200 frames at rate 2400, 1200 or 600, rounded up.
@@ -40,5 +58,5 @@ pub fn packet_ticks(payload: &[u8]) -> Result<Ticks, Refusal> {
 /// `Unknown` for any other rate or number of frames.
 pub fn ptime(rate: u32, frames: usize) -> Result<Millis, Refusal> {
     let time = ffi::ptime(rate, frames);
-    answer(time.number, time.place, Millis(time.millis))
+    answer(Call::Ptime, time.number, time.place, Millis(time.millis))
 }

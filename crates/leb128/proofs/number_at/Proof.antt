@@ -1,8 +1,9 @@
+-- `leb128::number_at` reads a number octet by octet.
 use Prim.Native.Nat.{_-_}
 use native.Mathlib.Omega.{arith}
 use lib.ListN.{length}
 use borrow.Author.Needs.{needs}
-use Rattle.leb128.proofs.Heads.{Heads, heads-start, heads-end, heads-few, heads-more, heads-last, heads-bad}
+use Rattle.leb128.proofs.Heads.{finds, Heads, heads-start, heads-end, heads-few, heads-more, heads-last, heads-bad}
 use Rattle.leb128.proofs.number_at.Statement.{statement}
 use Rattle.leb128.proofs.number_at.Tie as tie
 
@@ -25,7 +26,7 @@ enum-told : tie.Need-enum-told Inv-loop μ-loop
 enum-told c = search needs
 
 returns : tie.Need-returns Inv-loop μ-loop
-returns c = heads-bad _ _ _ _ _ _ _ (c .before .before .before .before .before .loop .inv) (c .before .before .before .before .loop-test .taken) (c .before .before .step .ensures) (c .enum-told .given .1)
+returns c = finds _ _ _ _ (heads-bad _ _ _ _ _ _ _ (c .before .before .before .before .before .loop .inv) (c .before .before .before .before .loop-test .taken) (c .before .before .step .ensures .answer) (c .enum-told .given .1))
 
 enum-known-group : tie.Need-enum-known-group Inv-loop μ-loop
 enum-known-group c = search needs
@@ -34,13 +35,13 @@ add-t15 : tie.Need-add-t15 Inv-loop μ-loop
 add-t15 c = omega (arith, c .before .before .before .before .before .loop-test .taken)
 
 returns-2 : tie.Need-returns-2 Inv-loop μ-loop
-returns-2 c = heads-last _ _ _ _ _ _ _ (c .before .before .before .before .before .before .loop .inv) (c .before .before .before .before .before .loop-test .taken) (c .before .before .before .step .ensures) _ (c .before .group .given .1)
+returns-2 c = finds _ _ _ _ (heads-last _ _ _ _ _ _ _ (c .before .before .before .before .before .before .loop .inv) (c .before .before .before .before .before .loop-test .taken) (c .before .before .before .step .ensures .answer) _ (c .before .group .given .1))
 
 enum-known-group-2 : tie.Need-enum-known-group-2 Inv-loop μ-loop
 enum-known-group-2 c = search needs
 
 add-groups : tie.Need-add-groups Inv-loop μ-loop
-add-groups c = omega (arith, heads-few _ _ _ _ _ _ _ (c .before .before .before .before .before .before .loop .inv) (c .before .before .before .before .before .loop-test .taken) (c .before .before .before .step .ensures) _ (c .before .group2 .given .1))
+add-groups c = omega (arith, heads-few _ _ _ _ _ _ _ (c .before .before .before .before .before .before .loop .inv) (c .before .before .before .before .before .loop-test .taken) (c .before .before .before .step .ensures .answer) _ (c .before .group2 .given .1))
 
 add-i : tie.Need-add-i Inv-loop μ-loop
 add-i c = omega (arith, c .before .before .before .before .before .loop-test .taken)
@@ -49,10 +50,10 @@ loop-less : tie.Need-loop-less Inv-loop μ-loop
 loop-less c = omega (arith, c .before .before .before .before .before .loop-test .taken)
 
 loop-again : tie.Need-loop-again Inv-loop μ-loop
-loop-again c = heads-more _ _ _ _ _ _ _ (c .before .before .before .before .before .before .loop .inv) (c .before .before .before .before .before .loop-test .taken) (c .before .before .before .step .ensures) _ (c .before .group2 .given .1)
+loop-again c = heads-more _ _ _ _ _ _ _ (c .before .before .before .before .before .before .loop .inv) (c .before .before .before .before .before .loop-test .taken) (c .before .before .before .step .ensures .answer) _ (c .before .group2 .given .1)
 
 returns-3 : tie.Need-returns-3 Inv-loop μ-loop
-returns-3 c = heads-end _ _ _ _ _ _ _ (c .before .loop .inv) (c .loop-test .left)
+returns-3 c = finds _ _ _ _ (heads-end _ _ _ _ _ _ _ (c .before .loop .inv) (c .loop-test .left))
 
 pub number-at-spec : {M : Type 1} → statement M
 number-at-spec =

@@ -1,52 +1,48 @@
-use mathlib.Core.Path.{sym, _∙_}
+-- `listing::close` writes the last line, or refuses a buffer that it does not fit.
+use mathlib.Core.Path.{sym}
 use native.Mathlib.Omega.{arith}
-use Rattle.listing.specs.Line.{endLine, cutLine}
-use Rattle.listing.proofs.Carrying.{last-end, last-cut, front-put}
+use lib.Seq.{length-take-le}
+use Rattle.listing.proofs.Answering.{line-kept, close-short, close-line}
 use borrow.Author.Needs.{needs}
 use Rattle.listing.proofs.close.Statement.{statement}
 use Rattle.listing.proofs.close.Tie as tie
 
+slice-aggregate-put-closing-line : tie.Need-slice-aggregate-put-closing-line
+slice-aggregate-put-closing-line c = search needs
+
+put-closing-line-requires : tie.Need-put-closing-line-requires
+put-closing-line-requires c κs = search needs
+
 returns : tie.Need-returns
-returns c = search needs
+returns c = let z = c .before .before .before .before .before .args in close-short (z .state) (z .out .now) (omega arith) (c .before .before .put-closing-line .ensures) (c .if1 .taken)
 
-ends-requires : tie.Need-ends-requires
-ends-requires c κs = search needs
+array-share-prefix-line : tie.Need-array-share-prefix-line
+array-share-prefix-line c = let z = c .before .before .before .before .before .before .args in line-kept (z .state) (z .out .now) (omega arith) (c .before .before .before .put-closing-line .ensures)
 
-slice-aggregate-put-closing : tie.Need-slice-aggregate-put-closing
-slice-aggregate-put-closing c = search needs
+slice-aggregate-put-word : tie.Need-slice-aggregate-put-word
+slice-aggregate-put-word c = let z = c .before .before .before .before .before .before .before .args in sym (length-take-le _ _ (line-kept (z .state) (z .out .now) (omega arith) (c .before .before .before .before .put-closing-line .ensures)))
 
-put-closing-requires : tie.Need-put-closing-requires
-put-closing-requires c κs = search needs
+put-word-requires : tie.Need-put-word-requires
+put-word-requires c κs =
+    let z = c .before .before .before .before .before .before .before .args in
+    let l = c .before .before .before .before .put-closing-line in
+    omega (arith, length-take-le (l .result) (l .last .0) (line-kept (z .state) (z .out .now) (omega arith) (l .ensures)), c .before .before .if1 .left)
 
 same-length : tie.Need-same-length
 same-length c = search needs
 
 returns-2 : tie.Need-returns-2
-returns-2 c = let z = c .before .before .before .before .before .before .before .before .before .args in (omega (arith, c .before .before .before .before .before .before .before .if1 .left), λ b. front-put (z .out .now) (endLine (z .state .lines)) (c .before .before .put-closing .ensures) (last-end (z .state .lines) (z .state .phase) (sym (c .before .before .before .before .before .if2 .taken) ∙ c .before .before .before .before .before .before .ends .ensures) b))
-
-slice-aggregate-put-closing-2 : tie.Need-slice-aggregate-put-closing-2
-slice-aggregate-put-closing-2 c = search needs
-
-put-closing-requires-2 : tie.Need-put-closing-requires-2
-put-closing-requires-2 c κs = search needs
-
-same-length-2 : tie.Need-same-length-2
-same-length-2 c = search needs
-
-returns-3 : tie.Need-returns-3
-returns-3 c = let z = c .before .before .before .before .before .before .before .before .before .args in (omega (arith, c .before .before .before .before .before .before .before .if1 .left), λ b. front-put (z .out .now) (cutLine (z .state .lines)) (c .before .before .put-closing2 .ensures) (last-cut (z .state .lines) (z .state .phase) (sym (c .before .before .before .before .before .if2 .left) ∙ c .before .before .before .before .before .before .ends .ensures) b))
+returns-2 c = let z = c .before .before .before .before .before .before .before .before .before .before .args in close-line (z .state) (z .out .now) (omega arith) (c .before .before .before .before .before .before .before .put-closing-line .ensures) (c .before .before .before .before .before .if1 .left) (c .before .before .put-word .ensures)
 
 pub close-spec : {M : Type 1} → statement M
 close-spec =
     tie.close
     (tie.spec
+    slice-aggregate-put-closing-line
+    put-closing-line-requires
     returns
-    ends-requires
-    slice-aggregate-put-closing
-    put-closing-requires
+    array-share-prefix-line
+    slice-aggregate-put-word
+    put-word-requires
     same-length
-    returns-2
-    slice-aggregate-put-closing-2
-    put-closing-requires-2
-    same-length-2
-    returns-3)
+    returns-2)

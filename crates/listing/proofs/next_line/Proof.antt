@@ -1,4 +1,5 @@
-use Rattle.listing.proofs.Rows.{following-more, following-last}
+-- `listing::next_line` gives the number of the next payload line.
+use Rattle.listing.proofs.Lines.{following-more, following-last}
 use borrow.Author.Needs.{needs}
 use Rattle.listing.proofs.next_line.Statement.{statement}
 use Rattle.listing.proofs.next_line.Tie as tie

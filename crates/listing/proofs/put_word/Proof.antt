@@ -1,5 +1,6 @@
+-- `listing::put_word` stores a word.
 use mathlib.Core.Path.{refl}
-use Rattle.octets.proofs.Parts.{into-part}
+use Rattle.octets.proofs.Put.{put-copy}
 use borrow.Author.Needs.{needs}
 use Rattle.listing.proofs.put_word.Statement.{statement}
 use Rattle.listing.proofs.put_word.Tie as tie
@@ -23,7 +24,9 @@ same-length : tie.Need-same-length
 same-length c = search needs
 
 returns : tie.Need-returns
-returns c = let z = c .before .before .before .before .before .before in (into-part (z .args .word .now) (z .args .out .now) (z .args .at) _ refl (z .pre) (c .before .before .copy .ensures), refl)
+returns c =
+    let z = c .before .before .before .before .before .before in
+    record { octets = put-copy (z .args .word .now) (z .args .out .now) (z .args .at) _ refl (z .pre) (c .before .before .copy .ensures); end = refl }
 
 pub put-word-spec : {M : Type 1} → statement M
 put-word-spec =

@@ -1,6 +1,7 @@
-use native.Mathlib.Omega.{arith}
-use Rattle.views.proofs.Shown.{within, augmentation-missing, augmentation-none, augmentation-at}
+-- `views::augmentation` shows the row's augmentation, or the empty part at the payload's start.
 use borrow.Author.Needs.{needs}
+use Rattle.views.proofs.RowLocation.{within}
+use Rattle.views.proofs.Shown.{augmentation-missing, augmentation-at}
 use Rattle.views.proofs.augmentation.Statement.{statement}
 use Rattle.views.proofs.augmentation.Tie as tie
 
@@ -13,35 +14,17 @@ enum-told c = search needs
 slice-aggregate-result : tie.Need-slice-aggregate-result
 slice-aggregate-result c = search needs
 
-enum-known-place : tie.Need-enum-known-place
-enum-known-place c = search needs
+enum-known-location : tie.Need-enum-known-location
+enum-known-location c = search needs
 
-slice-aggregate-result-2 : tie.Need-slice-aggregate-result-2
-slice-aggregate-result-2 c = search needs
+part-of-requires : tie.Need-part-of-requires
+part-of-requires c κs = within _ _ (λ i. c .before .before .before .before .shared-slice-known .given i .fits) (c .before .before .before .locate .ensures .answer) _ _ (c .before .location .given .1) .augmentation
 
 returns : tie.Need-returns
-returns c = augmentation-none _ _ (λ i. c .before .before .before .before .before .before .shared-slice-known .given i .fits) (c .before .before .before .before .before .locate .ensures) _ _ (c .before .before .before .place .given .1) (c .before .if1 .taken)
-
-add-from : tie.Need-add-from
-add-from c = let w = within _ _ (λ i. c .before .before .before .before .before .before .shared-slice-known .given i .fits) _ _ (c .before .before .before .place .given .1) (c .before .before .before .before .before .locate .ensures) in omega (arith, w .end, w .body, c .before .before .before .before .before .before .before .good)
-
-add-to : tie.Need-add-to
-add-to c = let w = within _ _ (λ i. c .before .before .before .before .before .before .shared-slice-known .given i .fits) _ _ (c .before .before .before .place .given .1) (c .before .before .before .before .before .locate .ensures) in omega (arith, w .end, w .body, c .before .before .before .before .before .before .before .good)
-
-sub-result : tie.Need-sub-result
-sub-result c = search needs
-
-part-result-start : tie.Need-part-result-start
-part-result-start c = search needs
-
-part-result-end : tie.Need-part-result-end
-part-result-end c = let w = within _ _ (λ i. c .before .before .before .before .before .before .shared-slice-known .given i .fits) _ _ (c .before .before .before .place .given .1) (c .before .before .before .before .before .locate .ensures) in omega (arith, w .end, w .body)
+returns c = augmentation-missing _ _ (λ i. c .before .before .before .before .shared-slice-known .given i .fits) (c .before .before .before .locate .ensures .answer) (c .before .enum-told .given .1)
 
 returns-2 : tie.Need-returns-2
-returns-2 c = augmentation-missing _ _ (λ i. c .before .before .before .before .shared-slice-known .given i .fits) (c .before .before .before .locate .ensures) (c .before .enum-told .given .1)
-
-returns-3 : tie.Need-returns-3
-returns-3 c = augmentation-at _ _ (λ i. c .before .before .before .before .before .before .before .shared-slice-known .given i .fits) (c .before .before .before .before .before .before .locate .ensures) _ _ (c .before .before .before .before .place .given .1) (c .before .before .if1 .left)
+returns-2 c = augmentation-at _ _ (λ i. c .before .before .before .before .before .shared-slice-known .given i .fits) (c .before .before .before .before .locate .ensures .answer) _ _ (c .before .before .location .given .1) (c .part-of .ensures)
 
 pub augmentation-spec : {M : Type 1} → statement M
 augmentation-spec =
@@ -50,13 +33,7 @@ augmentation-spec =
     locate-requires
     enum-told
     slice-aggregate-result
-    enum-known-place
-    slice-aggregate-result-2
+    enum-known-location
+    part-of-requires
     returns
-    add-from
-    add-to
-    sub-result
-    part-result-start
-    part-result-end
-    returns-2
-    returns-3)
+    returns-2)

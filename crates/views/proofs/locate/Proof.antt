@@ -1,16 +1,41 @@
+-- `views::locate` gives the location of the row, or missing where the walk refuses or holds no such row.
 use borrow.Author.Needs.{needs}
-use Rattle.views.proofs.Sought.{place-end}
+use Rattle.views.proofs.RowLocation.{locates, walk-refused, walk-holds, walk-past}
 use Rattle.views.proofs.locate.Statement.{statement}
 use Rattle.views.proofs.locate.Tie as tie
 
-end-of-requires : tie.Need-end-of-requires
-end-of-requires c κs = search needs
+walk-requires : tie.Need-walk-requires
+walk-requires c κs = search needs
 
-place-at-requires : tie.Need-place-at-requires
-place-at-requires c κs = search needs
+enum-told : tie.Need-enum-told
+enum-told c = search needs
+
+enum-known-walked : tie.Need-enum-known-walked
+enum-known-walked c = search needs
 
 returns : tie.Need-returns
-returns c = place-end _ _ (λ i. c .before .before .shared-slice-known .given i .fits) (c .before .end-of .ensures) (c .place-at .ensures)
+returns c = walk-past _ (λ i. c .before .before .before .before .before .shared-slice-known .given i .fits) (c .before .before .before .before .walk .ensures) _ (c .before .before .walked .given .1) _ (c .if1 .taken)
+
+step-back-requires : tie.Need-step-back-requires
+step-back-requires c κs = (
+  walk-holds _ (λ i. c .before .before .before .before .before .shared-slice-known .given i .fits) (c .before .before .before .before .walk .ensures) _ (c .before .before .walked .given .1),
+  c .if1 .left,
+)
+
+returns-2 : tie.Need-returns-2
+returns-2 c = walk-refused _ (λ i. c .before .before .before .shared-slice-known .given i .fits) (c .before .before .walk .ensures) _ (c .enum-told .given .1) _
+
+returns-3 : tie.Need-returns-3
+returns-3 c = locates _ _ (λ i. c .before .before .before .before .before .before .shared-slice-known .given i .fits) (c .step-back .ensures)
 
 pub locate-spec : {M : Type 1} → statement M
-locate-spec = tie.close (tie.spec end-of-requires place-at-requires returns)
+locate-spec =
+    tie.close
+    (tie.spec
+    walk-requires
+    enum-told
+    enum-known-walked
+    returns
+    step-back-requires
+    returns-2
+    returns-3)

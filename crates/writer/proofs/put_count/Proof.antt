@@ -1,6 +1,7 @@
+-- `writer::put_count` writes the octets of a count, none, one or two of them.
 use native.Mathlib.Omega.{arith}
 use lib.ListN.{length-set}
-use Rattle.writer.proofs.Copied.{count-none, count-one, count-two}
+use Rattle.writer.proofs.Shapes.{count-none, count-one, count-two}
 use borrow.Author.Needs.{needs}
 use Rattle.writer.proofs.put_count.Statement.{statement}
 use Rattle.writer.proofs.put_count.Tie as tie

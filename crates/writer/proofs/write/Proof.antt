@@ -1,6 +1,7 @@
+-- `writer::write` makes the checks of the rows, then those of the bodies, then writes; so it keeps its promise, the exactness included.
 use mathlib.Core.Path.{refl, sym, _∙_}
-use Rattle.writer.proofs.Staged.{ends-refused, write-refused}
-use Rattle.writer.proofs.Trips.{ends-writes}
+use Rattle.writer.proofs.WriteStages.{ends-refused, write-refused}
+use Rattle.writer.proofs.Exactness.{promised}
 use borrow.Author.Needs.{needs}
 use Rattle.writer.proofs.write.Statement.{statement}
 use Rattle.writer.proofs.write.Tie as tie
@@ -18,13 +19,13 @@ write-bodies-requires : tie.Need-write-bodies-requires
 write-bodies-requires c κs = sym (c .before .before .before .before .check-rows .ensures .answer) ∙ c .before .before .checked2 .given .1
 
 returns : tie.Need-returns
-returns c = ends-writes _ _ _ (λ i. c .before .before .before .before .before .shared-slice-known2 .given i .fits) _ _ (ends-refused _ (write-refused _ _ _ _ (sym (c .before .before .before .check-rows .ensures .answer) ∙ c .before .checked .given .1)) refl)
+returns c = promised _ _ _ (λ i. c .before .before .before .before .before .shared-slice-known2 .given i .fits) _ _ (ends-refused _ (write-refused _ _ _ _ (sym (c .before .before .before .check-rows .ensures .answer) ∙ c .before .checked .given .1)) refl)
 
 same-length : tie.Need-same-length
 same-length c = search needs
 
 returns-2 : tie.Need-returns-2
-returns-2 c = ends-writes _ _ _ (λ i. c .before .before .before .before .before .before .before .before .before .shared-slice-known2 .given i .fits) _ _ (c .before .before .write-bodies .ensures)
+returns-2 c = promised _ _ _ (λ i. c .before .before .before .before .before .before .before .before .before .shared-slice-known2 .given i .fits) _ _ (c .before .before .write-bodies .ensures)
 
 pub write-spec : {M : Type 1} → statement M
 write-spec =

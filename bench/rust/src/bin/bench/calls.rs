@@ -1,6 +1,6 @@
 //! The implementations that are measured, each at some places in memory: see places.sh.
 
-use safe::abi::{Part, Reading, SettingsReading, Time, Writing};
+use second::abi::{Part, Reading, SettingsReading, Time, Writing};
 
 type CountFn = unsafe extern "C" fn(*const u8, usize) -> i32;
 type ReadFn = unsafe extern "C" fn(*const u8, usize, *mut u16, usize, *mut u8, usize) -> Reading;

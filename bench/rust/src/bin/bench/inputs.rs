@@ -1,7 +1,8 @@
 //! What is measured: mixes of payloads with their rows and bodies, setting texts and settings, 600 bps bodies and fields.
 //! The same in every run.
 
-use safe::{payload, writer};
+use second::kinds::Kind;
+use second::{MAX_OCTETS, fields, payload, writer};
 
 /// Inputs of each kind in a mix.
 pub const INPUTS: usize = 64;
@@ -36,36 +37,27 @@ pub struct Mix {
     pub packets: Vec<Packet>,
 }
 
-fn put_frame(packet: &mut Packet, kind: u16, tc: u16, prng: &mut Prng) {
-    let (base, largest, code) = match kind {
-        2 => (11, 1, 128),
-        3 => (7, 63, 64),
-        4 => (2, 31, 160),
-        _ => (7, 63, 0),
-    };
-    let mut body: Vec<u8> = (0..base + tc as usize).map(|_| prng.next() as u8).collect();
-    body[base - 1] = prng.below(largest + 1) as u8;
+fn add_frame(packet: &mut Packet, kind: u16, tc: u16, prng: &mut Prng) {
+    let known = Kind::of(kind).expect("a kind that there is");
+    let octets = 0..known.body_octets(tc);
+    let mut body: Vec<u8> = octets.map(|_| prng.next() as u8).collect();
+    body[known.base - 1] = prng.below(usize::from(known.end) + 1) as u8;
     packet.rows.extend([kind, tc]);
     packet.bodies.extend(&body);
-    body[base - 1] += code;
-    packet.payload.extend(&body);
-    match tc {
-        0 => {}
-        15..=77 => packet.payload.push(192 + (tc as u8 - 15)),
-        _ => packet.payload.extend([tc as u8, 255]),
-    }
 }
 
 fn packet(rows: &[(u16, u16)], prng: &mut Prng) -> Packet {
     let mut packet = Packet {
-        payload: vec![],
+        payload: vec![0; MAX_OCTETS],
         rows: vec![],
         bodies: vec![],
         row: 0,
     };
     for &(kind, tc) in rows {
-        put_frame(&mut packet, kind, tc, prng);
+        add_frame(&mut packet, kind, tc, prng);
     }
+    let written = writer::write(&packet.rows, &packet.bodies, &mut packet.payload);
+    packet.payload.truncate(written.expect("a legal packet"));
     packet.row = prng.below(rows.len());
     packet
 }
@@ -148,12 +140,6 @@ pub fn mode(input: usize) -> u8 {
     1 + (input % 3) as u8
 }
 
-const WIDTHS: [&[u32]; 3] = [
-    &[5, 4, 4, 4, 6, 4, 4, 4, 6, 6, 7],
-    &[5, 6, 4, 4, 6, 4, 5, 7, 6, 7],
-    &[5, 8, 4, 5, 6, 4, 5, 6, 5, 6],
-];
-
 fn some_settings(prng: &mut Prng) -> [u16; 4] {
     let mut rates = [2400, 1200, 600];
     rates.rotate_left(prng.below(3));
@@ -178,7 +164,7 @@ fn some_time(input: usize, prng: &mut Prng) -> (u32, usize) {
 }
 
 fn some_fields(input: usize, prng: &mut Prng) -> Vec<u16> {
-    let widths = WIDTHS[usize::from(mode(input)) - 1];
+    let widths = fields::widths(mode(input)).expect("modes 1 to 3 have fields");
     widths
         .iter()
         .map(|width| prng.below(1 << width) as u16)

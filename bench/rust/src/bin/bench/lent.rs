@@ -2,7 +2,7 @@
 //! are slower where source and target stand alike in their pages.
 
 use crate::calls::PLACES;
-use safe::{MAX_FRAMES, MAX_OCTETS};
+use second::{MAX_FRAMES, MAX_OCTETS};
 
 /// Octets of a page.
 const PAGE: usize = 4096;

@@ -1,4 +1,4 @@
-//! Measures the library beside careful C and safe Rust that do the same work, and prints a table.
+//! Measures the library beside the second implementations, careful C and safe Rust that do the same work, and prints a table.
 
 mod agree;
 mod calls;

@@ -1,0 +1,35 @@
+-- `listing_io::write_front` writes the front of a buffer.
+use mathlib.Core.Path.{sym}
+use lib.Seq.{length-take-le}
+use borrow.Author.Needs.{needs}
+use Rattle.listing_io.proofs.write_front.Statement.{statement}
+use Rattle.listing_io.proofs.write_front.Tie as tie
+
+slice-aggregate-write-all : tie.Need-slice-aggregate-write-all
+slice-aggregate-write-all c = let z = c .before .before in sym (length-take-le (z .args .n) (z .args .out .now) (z .pre))
+
+write-all-requires : tie.Need-write-all-requires
+write-all-requires c κs = search needs
+
+slice-aggregate-fail : tie.Need-slice-aggregate-fail
+slice-aggregate-fail c = search needs
+
+fail-requires : tie.Need-fail-requires
+fail-requires c κs = search needs
+
+returns : tie.Need-returns
+returns c = search needs
+
+returns-2 : tie.Need-returns-2
+returns-2 c = search needs
+
+pub write-front-spec : {M : Type 1} → statement M
+write-front-spec =
+    tie.close
+    (tie.spec
+    slice-aggregate-write-all
+    write-all-requires
+    slice-aggregate-fail
+    fail-requires
+    returns
+    returns-2)

@@ -1,0 +1,24 @@
+-- `moult::moult_augmentation` answers where the part is that `views::augmentation` shows.
+use Rattle.moult.proofs.Structs.{augmentation-none, augmentation-there}
+use borrow.Author.Needs.{needs}
+use Rattle.moult.proofs.moult_augmentation.Statement.{statement}
+use Rattle.moult.proofs.moult_augmentation.Tie as tie
+
+locate-requires : tie.Need-locate-requires
+locate-requires c κs = search needs
+
+enum-told : tie.Need-enum-told
+enum-told c = search needs
+
+enum-known-location : tie.Need-enum-known-location
+enum-known-location c = search needs
+
+returns : tie.Need-returns
+returns c = augmentation-none _ _ (λ i. c .before .before .before .shared-slice-known .given i .fits) (c .before .before .locate .ensures .answer) (c .enum-told .given .1)
+
+returns-2 : tie.Need-returns-2
+returns-2 c = augmentation-there _ _ (λ i. c .before .before .before .before .shared-slice-known .given i .fits) (c .before .before .before .locate .ensures .answer) _ _ (c .before .location .given .1)
+
+pub moult-augmentation-spec : {M : Type 1} → statement M
+moult-augmentation-spec =
+    tie.close (tie.spec locate-requires enum-told enum-known-location returns returns-2)

@@ -1,0 +1,34 @@
+-- `moult::moult_packet_ticks` answers the struct of what `clock::packet_ticks` answers.
+use Rattle.moult.proofs.Structs.{returned}
+use borrow.Author.Needs.{needs}
+use Rattle.moult.proofs.moult_packet_ticks.Statement.{statement}
+use Rattle.moult.proofs.moult_packet_ticks.Tie as tie
+
+packet-ticks-requires : tie.Need-packet-ticks-requires
+packet-ticks-requires c κs = search needs
+
+enum-known-answer : tie.Need-enum-known-answer
+enum-known-answer c = search needs
+
+enum-known-answer-2 : tie.Need-enum-known-answer-2
+enum-known-answer-2 c = search needs
+
+cast-t6 : tie.Need-cast-t6
+cast-t6 c = search needs
+
+returns : tie.Need-returns
+returns c = returned (c .before .before .before .packet-ticks .ensures) (c .before .answer .given .1)
+
+returns-2 : tie.Need-returns-2
+returns-2 c = returned (c .before .before .before .before .packet-ticks .ensures) (c .before .before .answer2 .given .1)
+
+pub moult-packet-ticks-spec : {M : Type 1} → statement M
+moult-packet-ticks-spec =
+    tie.close
+    (tie.spec
+    packet-ticks-requires
+    enum-known-answer
+    enum-known-answer-2
+    cast-t6
+    returns
+    returns-2)

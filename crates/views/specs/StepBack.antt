@@ -1,0 +1,13 @@
+-- What the private functions ask of each other: no public promise reaches this file.
+use mathlib.Core.Path.{_≡_}
+use mathlib.Core.List.{List}
+use Prim.Native.Nat.{ℕ}
+use lib.ListN.{length}
+use Rattle.wire.specs.Frame.{Frame, Legal, octetsOf}
+
+-- a legal sequence of n frames gives the payload p
+pub record Holds (p : List ℕ) (n : ℕ) : Type 0 where
+  pub sequence : List Frame
+  pub legal : Legal sequence
+  pub gives : octetsOf sequence ≡ p
+  pub frames : n ≡ length sequence

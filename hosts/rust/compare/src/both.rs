@@ -1,0 +1,185 @@
+//! Each function called twice: through the safe wrapper and then through the C ABI, whose answer is
+//! handed back field by field. The two must say the same, and write the same. The wrapper is lent
+//! copies: on the same memory one call could undo what the other should not have changed.
+
+use crate::guard::Lent;
+use crate::raw;
+use moult::{Kind, Reason, Refusal, Settings, Shown};
+use std::fmt::Debug;
+use std::ptr;
+
+/// Number, place and values of an answer.
+pub type Answer<T> = (u32, usize, T);
+
+/// Rows, body octets, rate (0 for none) and ticks of a reading.
+pub type Read = (usize, usize, u32, usize);
+
+/// A part: whether it is of the stand-in, start and length.
+pub type Part = (u32, usize, usize);
+
+/// The raw answer; the wrapper keeps its values where accepted, its place where refused.
+#[track_caller]
+fn agreed<T: PartialEq + Debug>(raw: Answer<T>, safe: Result<T, Refusal>) -> Answer<T> {
+    match &safe {
+        Ok(values) => assert_eq!((raw.0, &raw.2), (0, values), "the wrapper's values"),
+        Err(refusal) => assert_eq!(
+            (raw.0, raw.1),
+            (refusal.reason.number(), refusal.place),
+            "the wrapper's refusal"
+        ),
+    }
+    raw
+}
+
+/// Both calls of a function that fills one buffer.
+#[track_caller]
+fn writing<T: Copy + PartialEq + Debug>(
+    out: &mut Lent<T>,
+    raw: impl FnOnce(&mut [T]) -> raw::Writing,
+    safe: impl FnOnce(&mut [T]) -> Result<usize, Refusal>,
+) -> Answer<usize> {
+    let mut copied = out.clone();
+    let safe = safe(copied.part());
+    let raw = raw(out.part());
+    assert_eq!(copied, *out, "the wrapper's buffer");
+    agreed((raw.number, raw.place, raw.octets), safe)
+}
+
+pub fn count(payload: &Lent<u8>) -> i32 {
+    let safe = match moult::count(payload.clone().shared()) {
+        Ok(frames) => frames as i32,
+        Err(reason) => -(reason.number() as i32),
+    };
+    let counted = raw::count(payload.shared());
+    assert_eq!(counted, safe, "the wrapper's count");
+    counted
+}
+
+pub fn read(payload: &Lent<u8>, rows: &mut Lent<u16>, bodies: &mut Lent<u8>) -> Answer<Read> {
+    let mut copied = (rows.clone(), bodies.clone());
+    let safe = moult::read(payload.clone().shared(), copied.0.part(), copied.1.part());
+    if let Ok(reading) = &safe {
+        frames(reading, copied.0.shared(), copied.1.shared());
+    }
+    let safe = safe.map(|read| (read.rows, read.octets, read.rate.unwrap_or(0), read.ticks.0));
+    let raw = raw::read(payload.shared(), rows.part(), bodies.part());
+    assert_eq!(copied.0, *rows, "the wrapper's rows");
+    assert_eq!(copied.1, *bodies, "the wrapper's bodies");
+    let values = (raw.rows, raw.octets, raw.rate, raw.ticks);
+    agreed((raw.number, raw.place, values), safe)
+}
+
+/// The wrapper's frames are all rows with all bodies.
+fn frames(reading: &moult::Reading, rows: &[u16], bodies: &[u8]) {
+    let mut rest = (&rows[..2 * reading.rows], &bodies[..reading.octets]);
+    for frame in reading.frames(rows, bodies) {
+        let frame = frame.expect("what was read has frames");
+        assert_eq!(rest.0[..2], [frame.kind.number(), frame.tc], "a row");
+        assert!(ptr::eq(&rest.1[..frame.body.len()], frame.body), "a body");
+        rest = (&rest.0[2..], &rest.1[frame.body.len()..]);
+    }
+    assert!(rest.0.is_empty() && rest.1.is_empty(), "frames left out");
+}
+
+pub fn body_octets(kind: u16, tc: u16) -> usize {
+    let raw = raw::body_octets(kind, tc);
+    let safe = moult::body_octets(Kind::from(kind), tc);
+    assert_eq!(safe, Some(raw).filter(|octets| *octets != 0));
+    raw
+}
+
+pub fn write(rows: &Lent<u16>, bodies: &Lent<u8>, out: &mut Lent<u8>) -> Answer<usize> {
+    writing(
+        out,
+        |out| raw::write(rows.shared(), bodies.shared(), out),
+        |out| moult::write(rows.clone().shared(), bodies.clone().shared(), out),
+    )
+}
+
+pub fn packet_ticks(payload: &Lent<u8>) -> Answer<usize> {
+    let safe = moult::packet_ticks(payload.clone().shared()).map(|ticks| ticks.0);
+    let raw = raw::packet_ticks(payload.shared());
+    agreed((raw.number, raw.place, raw.ticks), safe)
+}
+
+pub fn ptime(rate: u32, frames: usize) -> Answer<usize> {
+    let raw = raw::ptime(rate, frames);
+    let safe = moult::ptime(rate, frames).map(|millis| millis.0);
+    agreed((raw.number, raw.place, raw.millis), safe)
+}
+
+/// Compares where the wrapper's part stands in its buffer, not what it holds.
+fn part(raw: raw::Part, buffer: &[u8], safe: &[u8]) -> Part {
+    let same = &buffer[raw.start..][..raw.length];
+    assert!(ptr::eq(same, safe), "the wrapper's part");
+    (raw.stand_in, raw.start, raw.length)
+}
+
+pub fn augmentation(payload: &Lent<u8>, row: usize) -> Part {
+    let copied = payload.clone();
+    let safe = moult::augmentation(copied.shared(), row);
+    let raw = raw::augmentation(payload.shared(), row);
+    part(raw, copied.shared(), safe)
+}
+
+pub fn frame_or(payload: &Lent<u8>, row: usize, stand_in: &Lent<u8>) -> Part {
+    let copied = (payload.clone(), stand_in.clone());
+    let shown = moult::frame_or(copied.0.shared(), row, copied.1.shared());
+    let (of_stand_in, buffer) = match shown {
+        Shown::Frame(_) => (0, &copied.0),
+        Shown::StandIn(_) => (1, &copied.1),
+    };
+    let raw = raw::frame_or(payload.shared(), row, stand_in.shared());
+    assert_eq!(raw.stand_in, of_stand_in, "the wrapper's choice");
+    part(raw, buffer.shared(), shown.octets())
+}
+
+pub fn read_settings(text: &Lent<u8>) -> Answer<raw::Settings> {
+    let safe = Settings::read(text.clone().shared());
+    if let Ok(settings) = &safe {
+        assert_eq!(settings.to_string().parse(), Ok(*settings), "what is shown");
+    }
+    let safe = safe.map(|settings| {
+        let mut values = [0, 0, 0, settings.tcmax()];
+        values[..settings.rates().len()].copy_from_slice(settings.rates());
+        values
+    });
+    let raw = raw::settings_read(text.shared());
+    agreed((raw.number, raw.place, raw.settings), safe)
+}
+
+/// Settings as the wrapper makes them: of the places up to the last that is not 0.
+fn made(values: raw::Settings) -> Result<Settings, Refusal> {
+    let [rates @ .., tcmax] = values;
+    let used = rates.iter().rposition(|rate| *rate != 0);
+    Settings::new(&rates[..used.map_or(0, |last| last + 1)], tcmax)
+}
+
+pub fn write_settings(values: raw::Settings, out: &mut Lent<u8>) -> Answer<usize> {
+    let made = made(values);
+    let answer = writing(
+        out,
+        |out| raw::settings_write(values, out),
+        |out| made.and_then(|settings| settings.write(out)),
+    );
+    if let Ok(settings) = made {
+        assert_ne!(answer.0, Reason::WrongSettings.number(), "{settings}");
+    }
+    answer
+}
+
+pub fn unpack(mode: u8, body: &Lent<u8>, fields: &mut Lent<u16>) -> Answer<usize> {
+    writing(
+        fields,
+        |fields| raw::unpack(mode, body.shared(), fields),
+        |fields| moult::unpack(mode, body.clone().shared(), fields),
+    )
+}
+
+pub fn pack(mode: u8, fields: &Lent<u16>, out: &mut Lent<u8>) -> Answer<usize> {
+    writing(
+        out,
+        |out| raw::pack(mode, fields.shared(), out),
+        |out| moult::pack(mode, fields.clone().shared(), out),
+    )
+}

@@ -1,0 +1,278 @@
+//! Reader, count, packet time and views, and the writer on what was read.
+
+use crate::both::{self, Answer, Part, Read};
+use crate::guard::{Lent, number, octet};
+use crate::prng::Prng;
+use crate::{LONGER, Met, lengthened, make, rows, whole};
+use second::{payload, time, views};
+
+type Make = fn(&mut Prng) -> Vec<u8>;
+
+const LEGAL: usize = 300_000;
+const DAMAGED_ONCE: usize = 220_000;
+const DAMAGED_OFTEN: usize = 150_000;
+const MIXED: usize = 100_000;
+const CLIPPED: usize = 120_000;
+const RANDOM: usize = 160_000;
+const LONG: usize = 6_000;
+/// All payloads of at most two octets.
+const SHORTEST: usize = 1 + 256 + 256 * 256;
+const _: () = assert!(
+    LEGAL + DAMAGED_ONCE + DAMAGED_OFTEN + MIXED + CLIPPED + RANDOM + LONG + SHORTEST > 1_000_000
+);
+
+/// What the second implementation makes of a payload with this much room: the whole answer, and what
+/// it puts into rows and bodies.
+type Wanted = (Answer<Read>, Vec<u16>, Vec<u8>);
+
+pub fn wanted(payload: &[u8], rows_room: usize, bodies_room: usize) -> Wanted {
+    let (mut rows, mut bodies) = (vec![0; rows_room], vec![0; bodies_room]);
+    let (number, place, walked) = whole(payload::read(payload, &mut rows, &mut bodies));
+    rows.truncate(2 * walked.frames);
+    bodies.truncate(walked.octets);
+    let read = (walked.frames, walked.octets, walked.rate, walked.ticks);
+    ((number, place, read), rows, bodies)
+}
+
+/// With room for any payload.
+fn wanted_whole(payload: &[u8]) -> Wanted {
+    wanted(payload, 400, 1400)
+}
+
+/// Compares one reading; gives the refusal number wanted, 0 where accepted.
+fn compare_read(payload: &[u8], rows_room: usize, bodies_room: usize, prng: &mut Prng) -> u32 {
+    let lent = Lent::holding(payload, prng, octet);
+    let mut rows = Lent::new(rows_room, prng, number);
+    let mut bodies = Lent::new(bodies_room, prng, octet);
+    let got = both::read(&lent, &mut rows, &mut bodies);
+    let (answer, rows_wanted, bodies_wanted) = wanted(payload, rows_room, bodies_room);
+    assert_eq!(got, answer, "reading {payload:02x?}");
+    lent.unchanged();
+    rows.holds_only(&rows_wanted);
+    bodies.holds_only(&bodies_wanted);
+    answer.0
+}
+
+fn compare_count_and_ticks(payload: &[u8], prng: &mut Prng) {
+    let lent = Lent::holding(payload, prng, octet);
+    let got = (both::count(&lent), both::packet_ticks(&lent));
+    let wanted = (payload::count(payload), whole(time::packet_ticks(payload)));
+    assert_eq!(got, wanted, "count and ticks of {payload:02x?}");
+    lent.unchanged();
+}
+
+/// A row's own octets or the stand-in, and the row's augmentation.
+fn wanted_views(payload: &[u8], row: usize, stand_in_octets: usize) -> (Part, Part) {
+    let own = match views::frame(payload, row) {
+        Some(part) => (0, part.start, part.len()),
+        None => (1, 0, stand_in_octets),
+    };
+    let augmentation = views::augmentation(payload, row);
+    (own, (0, augmentation.start, augmentation.len()))
+}
+
+fn compare_views(payload: &[u8], row: usize, stand_in_octets: usize, prng: &mut Prng) {
+    let lent = Lent::holding(payload, prng, octet);
+    let stand_in = Lent::new(stand_in_octets, prng, octet);
+    let got = (
+        both::frame_or(&lent, row, &stand_in),
+        both::augmentation(&lent, row),
+    );
+    let wanted = wanted_views(payload, row, stand_in_octets);
+    assert_eq!(got, wanted, "row {row} of {payload:02x?}");
+    lent.unchanged();
+    stand_in.unchanged();
+}
+
+/// What was read is written as the same octets.
+fn compare_writing_back(payload: &[u8], rows: &[u16], bodies: &[u8], prng: &mut Prng) {
+    let room = payload.len() + prng.below(3);
+    let answer = (0, 0, payload.len());
+    rows::compare_to(answer, payload, rows, bodies, room, prng);
+}
+
+/// A room around what is needed: short by a little, just enough, or more.
+fn room_around(needed: usize, prng: &mut Prng) -> usize {
+    match prng.below(8) {
+        0 => 0,
+        1 => needed + prng.below(40),
+        _ => (needed + prng.below(5)).saturating_sub(2),
+    }
+}
+
+fn rows_to_view(frames: usize, prng: &mut Prng) -> Vec<usize> {
+    let far = prng.pick(&[usize::MAX, usize::MAX / 2, 200, 1400, 1 << 16, 1 << 32]);
+    let mut rows = vec![0, frames, far];
+    if frames > 0 {
+        rows.extend([frames - 1, prng.below(frames)]);
+    }
+    rows
+}
+
+/// Compares all functions of a payload, and notes the refusals of its two readings.
+fn compare(payload: &[u8], met: &mut Met, prng: &mut Prng) {
+    let (answer, rows, bodies) = wanted_whole(payload);
+    compare_count_and_ticks(payload, prng);
+    met.note(compare_read(payload, rows.len(), bodies.len(), prng));
+    let rows_room = room_around(rows.len(), prng);
+    let bodies_room = room_around(bodies.len(), prng);
+    met.note(compare_read(payload, rows_room, bodies_room, prng));
+    for row in rows_to_view(rows.len() / 2, prng) {
+        let stand_in_octets = prng.below(20);
+        compare_views(payload, row, stand_in_octets, prng);
+    }
+    if answer.0 == 0 {
+        compare_writing_back(payload, &rows, &bodies, prng);
+    }
+}
+
+fn compare_many(seed: u64, cases: usize, make: Make) -> Met {
+    let mut prng = Prng::new(seed);
+    let mut met = Met::default();
+    for _ in 0..cases {
+        let payload = make(&mut prng);
+        compare(&payload, &mut met, &mut prng);
+    }
+    met
+}
+
+/// Legal sequences: what is read is what they were made of.
+#[test]
+fn legal() {
+    let mut prng = Prng::new(1);
+    let mut met = Met::default();
+    for _ in 0..LEGAL {
+        let frames = make::legal(&mut prng);
+        let payload = make::octets(&frames);
+        let (_, rows, bodies) = wanted_whole(&payload);
+        assert_eq!((rows, bodies), make::rows_and_bodies(&frames));
+        compare(&payload, &mut met, &mut prng);
+    }
+    met.at_least(1000, &[0, 9, 10]);
+}
+
+#[test]
+fn damaged_once() {
+    compare_many(2, DAMAGED_ONCE, make::damaged_once)
+        .at_least(100, &[0, 2, 3, 4, 5, 6, 7, 8, 9, 10]);
+}
+
+#[test]
+fn damaged_often() {
+    compare_many(3, DAMAGED_OFTEN, make::damaged_often)
+        .at_least(200, &[0, 2, 3, 4, 5, 6, 7, 8, 9, 10]);
+}
+
+#[test]
+fn mixed() {
+    compare_many(4, MIXED, make::mixed).at_least(1000, &[0, 6, 8]);
+}
+
+#[test]
+fn clipped() {
+    compare_many(5, CLIPPED, make::clipped).at_least(1000, &[0, 2, 3]);
+}
+
+#[test]
+fn random() {
+    compare_many(6, RANDOM, make::random).at_least(1000, &[0, 2, 3, 4, 5, 6, 7, 8]);
+}
+
+#[test]
+fn long() {
+    compare_many(7, LONG, make::long).at_least(200, &[0, 1, 3, 6, 7, 8]);
+}
+
+#[test]
+fn far_too_long() {
+    let mut prng = Prng::new(11);
+    let mut met = Met::default();
+    for length in [1401, 2800, 65_536 + 7, 1 << 20] {
+        compare(&vec![0; length], &mut met, &mut prng);
+        compare(&vec![255; length], &mut met, &mut prng);
+    }
+}
+
+/// Payloads, rooms, rows and stand-ins that would do, or would not, if their lengths were cut.
+#[test]
+fn longer() {
+    let mut prng = Prng::new(12);
+    let mut met = Met::default();
+    for by in LONGER {
+        for _ in 0..200 {
+            let payload = make::legal_payload(&mut prng);
+            let (_, rows, bodies) = wanted_whole(&payload);
+            let (rows, bodies) = (rows.len(), bodies.len());
+            let short = rows.saturating_sub(1) + by;
+            compare_read(&payload, short, bodies, &mut prng);
+            let short = bodies.saturating_sub(1) + by;
+            compare_read(&payload, rows, short, &mut prng);
+            let row = prng.below(rows / 2 + 1);
+            compare_views(&payload, row + by, row + by, &mut prng);
+            compare(&lengthened(&payload, by, 0), &mut met, &mut prng);
+        }
+    }
+    met.at_least(200, &[1]);
+}
+
+#[test]
+fn shortest() {
+    let mut prng = Prng::new(8);
+    let mut met = Met::default();
+    compare(&[], &mut met, &mut prng);
+    for first in 0..=255 {
+        compare(&[first], &mut met, &mut prng);
+        for second in 0..=255 {
+            compare(&[first, second], &mut met, &mut prng);
+        }
+    }
+}
+
+/// Every TC with every length of clip at the front, and every last octet behind every such frame.
+#[test]
+fn every_count() {
+    let mut prng = Prng::new(9);
+    let mut met = Met::default();
+    for tc in 1..=255 {
+        let payload = make::octets(&[make::frame(5, tc, &mut prng)]);
+        for cut in 0..payload.len() {
+            compare(&payload[cut..], &mut met, &mut prng);
+        }
+        for last in 0..=255 {
+            let mut other = payload.clone();
+            *other.last_mut().expect("a frame has octets") = last;
+            compare(&other, &mut met, &mut prng);
+        }
+    }
+}
+
+/// Every room from none to more than enough, for both buffers at once.
+#[test]
+fn rooms() {
+    let mut prng = Prng::new(10);
+    for _ in 0..120 {
+        let payload = make::legal_payload(&mut prng);
+        let (_, rows, bodies) = wanted_whole(&payload);
+        if rows.len() > 12 || bodies.len() > 80 {
+            continue;
+        }
+        for rows_room in 0..rows.len() + 4 {
+            for bodies_room in 0..bodies.len() + 3 {
+                compare_read(&payload, rows_room, bodies_room, &mut prng);
+            }
+        }
+    }
+}
+
+/// Every TC of every kind that there may be, and some TCs of every other.
+#[test]
+fn body_octets() {
+    let kinds = (0..=16).chain([255, 256, 257, 261, u16::MAX]);
+    let every_tc = kinds.flat_map(|kind| (0..=u16::MAX).map(move |tc| (kind, tc)));
+    let tcs = [0, 1, 14, 15, 77, 78, 255, 256, u16::MAX];
+    let every_kind = (0..=u16::MAX).flat_map(|kind| tcs.map(|tc| (kind, tc)));
+    for (kind, tc) in every_tc.chain(every_kind) {
+        let got = both::body_octets(kind, tc);
+        assert_eq!(got, second::body_octets(kind, tc), "row ({kind}, {tc})");
+    }
+}

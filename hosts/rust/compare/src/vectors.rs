@@ -1,0 +1,278 @@
+//! The recorded cases of tests/vectors (MOULT_VECTORS names another folder): the library, through
+//! wrapper and C ABI, and the second implementation must both answer as recorded.
+
+use crate::both::{self, Answer};
+use crate::guard::{Lent, number, octet};
+use crate::json::Json;
+use crate::prng::Prng;
+use crate::{payloads, wanted, whole};
+use second::{fields, listing, payload, settings, time, views, writer};
+use std::fmt::Debug;
+use std::fs;
+use std::path::{Path, PathBuf};
+
+/// A line of a file.
+struct Case {
+    file: PathBuf,
+    line: usize,
+    values: Json,
+}
+
+impl Case {
+    #[track_caller]
+    fn is<T: PartialEq + Debug>(&self, got: T, wanted: &T, who: &str) {
+        let (file, line) = (self.file.display(), self.line);
+        assert_eq!(got, *wanted, "{who} at {file}:{line}");
+    }
+
+    /// A value of the case, or of a part of it.
+    #[track_caller]
+    fn of<'a, T>(&self, part: &'a Json, name: &str, take: fn(&'a Json) -> Option<T>) -> T {
+        part.get(name).and_then(take).unwrap_or_else(|| {
+            let (file, line) = (self.file.display(), self.line);
+            panic!("{file}:{line}: `{name}` is missing or of another form")
+        })
+    }
+
+    #[track_caller]
+    fn number<T: TryFrom<i128>>(&self, name: &str) -> T {
+        self.of(&self.values, name, whole_number)
+    }
+
+    #[track_caller]
+    fn octets(&self, name: &str) -> Vec<u8> {
+        self.of(&self.values, name, hex)
+    }
+
+    #[track_caller]
+    fn numbers(&self, name: &str) -> Vec<u16> {
+        self.of(&self.values, name, number_list)
+    }
+
+    /// A text whose characters stand for one octet each.
+    #[track_caller]
+    fn text(&self, name: &str) -> Vec<u8> {
+        self.of(&self.values, name, characters)
+    }
+
+    /// The three rates and tcmax.
+    #[track_caller]
+    fn settings(&self) -> settings::Settings {
+        let rates = self.numbers("rates");
+        [rates[0], rates[1], rates[2], self.number("tcmax")]
+    }
+
+    /// The answer with this value.
+    #[track_caller]
+    fn answer<T>(&self, value: T) -> Answer<T> {
+        (self.number("number"), self.number("place"), value)
+    }
+}
+
+fn whole_number<T: TryFrom<i128>>(value: &Json) -> Option<T> {
+    T::try_from(value.number()?).ok()
+}
+
+fn number_list(value: &Json) -> Option<Vec<u16>> {
+    value.list()?.iter().map(whole_number).collect()
+}
+
+fn hex(value: &Json) -> Option<Vec<u8>> {
+    let digits = value.text()?.as_bytes();
+    let octet = |pair: &[u8]| u8::from_str_radix(std::str::from_utf8(pair).ok()?, 16).ok();
+    digits.chunks(2).map(octet).collect()
+}
+
+fn characters(value: &Json) -> Option<Vec<u8>> {
+    let octet = |c| u8::try_from(c).ok();
+    value.text()?.chars().map(octet).collect()
+}
+
+fn read(case: &Case, prng: &mut Prng) {
+    let payload = case.octets("payload");
+    let (rows_room, bodies_room) = (case.number("numbers"), case.number("octets"));
+    let (mut rows, mut bodies) = (vec![], vec![]);
+    for frame in case.of(&case.values, "frames", Json::list) {
+        let (kind, tc) = (
+            case.of(frame, "kind", whole_number),
+            case.of(frame, "tc", whole_number),
+        );
+        let body: Vec<u8> = case.of(frame, "body", hex);
+        case.is(both::body_octets(kind, tc), &body.len(), "the library");
+        case.is(second::body_octets(kind, tc), &body.len(), "the second");
+        rows.extend([kind, tc]);
+        bodies.extend(body);
+    }
+    let values = (
+        rows.len() / 2,
+        bodies.len(),
+        case.number("rate"),
+        case.number("ticks"),
+    );
+    let answer = case.answer(values);
+    let lent = Lent::holding(&payload, prng, octet);
+    let mut lent_rows = Lent::new(rows_room, prng, number);
+    let mut lent_bodies = Lent::new(bodies_room, prng, octet);
+    let got = both::read(&lent, &mut lent_rows, &mut lent_bodies);
+    case.is(got, &answer, "the library");
+    lent_rows.holds_only(&rows);
+    lent_bodies.holds_only(&bodies);
+    let second = payloads::wanted(&payload, rows_room, bodies_room);
+    case.is(second, &(answer, rows, bodies), "the second");
+
+    let count: i32 = case.number("count");
+    case.is(both::count(&lent), &count, "the library");
+    case.is(payload::count(&payload), &count, "the second");
+    let ticks = match count {
+        0.. => (0, 0, case.number("packet_ticks")),
+        _ => case.answer(0),
+    };
+    case.is(both::packet_ticks(&lent), &ticks, "the library");
+    case.is(whole(time::packet_ticks(&payload)), &ticks, "the second");
+    lent.unchanged();
+}
+
+fn view(case: &Case, _: &mut Prng) {
+    let (payload, row) = (case.octets("payload"), case.number("row"));
+    let (stand_in, frame) = (case.octets("stand_in"), case.octets("frame"));
+    let augmentation = case.octets("augmentation");
+    let got = moult::augmentation(&payload, row);
+    case.is(got, &&augmentation[..], "the library");
+    let got = moult::frame_or(&payload, row, &stand_in).octets();
+    case.is(got, &&frame[..], "the library");
+    let second = &payload[views::augmentation(&payload, row)];
+    case.is(second, &&augmentation[..], "the second");
+    let second = views::frame(&payload, row).map_or(&stand_in[..], |part| &payload[part]);
+    case.is(second, &&frame[..], "the second");
+}
+
+fn time(case: &Case, _: &mut Prng) {
+    let (rate, frames) = (case.number("rate"), case.number("frames"));
+    let answer = case.answer(case.number("millis"));
+    case.is(both::ptime(rate, frames), &answer, "the library");
+    case.is(whole(time::ptime(rate, frames)), &answer, "the second");
+}
+
+fn write(case: &Case, prng: &mut Prng) {
+    let (rows, bodies) = (case.numbers("rows"), case.octets("bodies"));
+    let (room, payload) = (case.number("octets"), case.octets("payload"));
+    let answer = case.answer(payload.len());
+    let lent_rows = Lent::holding(&rows, prng, number);
+    let lent_bodies = Lent::holding(&bodies, prng, octet);
+    let mut out = Lent::new(room, prng, octet);
+    let got = both::write(&lent_rows, &lent_bodies, &mut out);
+    case.is(got, &answer, "the library");
+    out.holds_only(&payload);
+    let mut out = vec![0; room];
+    let second = wanted(writer::write(&rows, &bodies, &mut out), out);
+    case.is(second, &(answer, payload), "the second");
+}
+
+fn settings_read(case: &Case, prng: &mut Prng) {
+    let text = case.text("text");
+    let answer = case.answer(case.settings());
+    let lent = Lent::holding(&text, prng, octet);
+    case.is(both::read_settings(&lent), &answer, "the library");
+    case.is(whole(settings::read(&text)), &answer, "the second");
+}
+
+fn settings_write(case: &Case, prng: &mut Prng) {
+    let (values, room, text) = (case.settings(), case.number("octets"), case.text("text"));
+    let answer = case.answer(text.len());
+    let mut out = Lent::new(room, prng, octet);
+    case.is(
+        both::write_settings(values, &mut out),
+        &answer,
+        "the library",
+    );
+    out.holds_only(&text);
+    let mut out = vec![0; room];
+    let second = wanted(settings::write(values, &mut out), out);
+    case.is(second, &(answer, text), "the second");
+}
+
+fn unpack(case: &Case, prng: &mut Prng) {
+    let (mode, body) = (case.number("mode"), case.octets("body"));
+    let (room, fields) = (case.number("numbers"), case.numbers("fields"));
+    let answer = case.answer(fields.len());
+    let lent = Lent::holding(&body, prng, octet);
+    let mut out = Lent::new(room, prng, number);
+    case.is(both::unpack(mode, &lent, &mut out), &answer, "the library");
+    out.holds_only(&fields);
+    let mut out = vec![0; room];
+    let second = wanted(fields::unpack(mode, &body, &mut out), out);
+    case.is(second, &(answer, fields), "the second");
+}
+
+fn pack(case: &Case, prng: &mut Prng) {
+    let (mode, fields) = (case.number("mode"), case.numbers("fields"));
+    let (room, body) = (case.number("octets"), case.octets("body"));
+    let answer = case.answer(body.len());
+    let lent = Lent::holding(&fields, prng, number);
+    let mut out = Lent::new(room, prng, octet);
+    case.is(both::pack(mode, &lent, &mut out), &answer, "the library");
+    out.holds_only(&body);
+    let mut out = vec![0; room];
+    let second = wanted(fields::pack(mode, &fields, &mut out), out);
+    case.is(second, &(answer, body), "the second");
+}
+
+/// The library has no listing: its program is held to these cases by itself.
+fn list(case: &Case, _: &mut Prng) {
+    let lines = case.of(&case.values, "lines", Json::list);
+    let lines: Option<Vec<&str>> = lines.iter().map(Json::text).collect();
+    let lines = lines.expect("lines are texts").join("\n") + "\n";
+    let mut listed = vec![];
+    listing::list(&mut &case.octets("input")[..], &mut listed).expect("memory can be read");
+    case.is(listed, &lines.into_bytes(), "the second");
+}
+
+fn run(case: &Case, prng: &mut Prng) {
+    match case.of(&case.values, "case", Json::text) {
+        "read" => read(case, prng),
+        "view" => view(case, prng),
+        "time" => time(case, prng),
+        "write" => write(case, prng),
+        "settings_read" => settings_read(case, prng),
+        "settings_write" => settings_write(case, prng),
+        "unpack" => unpack(case, prng),
+        "pack" => pack(case, prng),
+        "list" => list(case, prng),
+        other => panic!("{}:{}: no case: {other}", case.file.display(), case.line),
+    }
+}
+
+fn folder() -> PathBuf {
+    match std::env::var_os("MOULT_VECTORS") {
+        Some(folder) => folder.into(),
+        None => Path::new(env!("CARGO_MANIFEST_DIR")).join("../../../tests/vectors"),
+    }
+}
+
+fn files() -> Vec<PathBuf> {
+    let folder = folder();
+    let entries = fs::read_dir(&folder)
+        .unwrap_or_else(|error| panic!("no recorded cases in {}: {error}", folder.display()));
+    let paths = entries.map(|entry| entry.expect("the folder can be listed").path());
+    paths
+        .filter(|path| path.extension().is_some_and(|end| end == "jsonl"))
+        .collect()
+}
+
+#[test]
+fn recorded_cases() {
+    let mut prng = Prng::new(71);
+    let mut cases = 0;
+    for file in files() {
+        let text = fs::read_to_string(&file).expect("the file can be read");
+        for (line, text) in (1..).zip(text.lines()) {
+            let values =
+                Json::of(text).unwrap_or_else(|| panic!("{}:{line}: not JSON", file.display()));
+            let file = file.clone();
+            run(&Case { file, line, values }, &mut prng);
+            cases += 1;
+        }
+    }
+    assert!(cases > 0, "no recorded cases in {}", folder().display());
+    println!("{cases} recorded cases");
+}

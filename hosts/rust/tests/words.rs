@@ -1,0 +1,156 @@
+//! Every refusal in words: why, and what its place says in the call that gave it.
+
+use moult::{Refusal, Settings};
+
+fn read(payload: &[u8], rows: usize, octets: usize) -> Refusal {
+    moult::read(payload, &mut vec![0; rows], &mut vec![0; octets]).unwrap_err()
+}
+
+fn write(rows: &[u16], bodies: usize, out: usize) -> Refusal {
+    moult::write(rows, &vec![0xFF; bodies], &mut vec![0; out]).unwrap_err()
+}
+
+#[track_caller]
+fn says(refusal: Refusal, words: &str) {
+    assert_eq!(refusal.to_string(), words);
+}
+
+#[test]
+fn of_the_reader() {
+    let end = ", payload octets up to that frame's end: ";
+    let says = |payload: &[u8], words: &str, place: usize| {
+        let words = format!("{words}{end}{place}");
+        assert_eq!(read(payload, 0, 0).to_string(), words);
+        assert_eq!(moult::packet_ticks(payload).unwrap_err().to_string(), words);
+    };
+    says(&[0; 6], "refusal 2: frame cut at the front", 6);
+    says(&[0x82], "refusal 3: reserved or foreign bits set", 1);
+    says(&[0, 255], "refusal 4: long count is 0", 2);
+    says(&[15, 255], "refusal 5: long count of 15 to 77", 2);
+    says(&[0, 160, 0, 160], "refusal 6: comfort noise not last", 2);
+    let bad_base = [64, 64, 64, 64, 64, 64, 64, 0, 1, 255];
+    let words = "refusal 7: augmentation not behind a 2400 bps frame";
+    says(&bad_base, words, 10);
+    let mixed = [0, 0, 0, 0, 0, 0, 0, 0, 0, 0, 0, 0, 0, 64];
+    says(&mixed, "refusal 8: rates mixed", 7);
+}
+
+#[test]
+fn of_room() {
+    says(
+        read(&[0; 1401], 0, 0),
+        "refusal 1: too long, at most 1400 octets are allowed",
+    );
+    says(
+        read(&[0; 14], 3, 14),
+        "refusal 9: number list too short, rows needed: 2",
+    );
+    says(
+        read(&[0; 14], 4, 13),
+        "refusal 10: octet buffer too short, octets needed: 14",
+    );
+}
+
+#[test]
+fn of_the_writer() {
+    let row = " (from 0)";
+    let cases: [(&[u16], usize, &str, &str); 7] = [
+        (&[1], 0, "refusal 11: odd row list, its length: 1", ""),
+        (
+            &[1, 0, 9, 0],
+            0,
+            "refusal 12: unknown kind, rate or number of frames, at row 1",
+            row,
+        ),
+        (
+            &[1, 0, 1, 1],
+            0,
+            "refusal 13: TC wrong for the kind, at row 1",
+            row,
+        ),
+        (
+            &[4, 0, 1, 0],
+            0,
+            "refusal 6: comfort noise not last, at row 0",
+            row,
+        ),
+        (&[1, 0, 3, 0], 0, "refusal 8: rates mixed, at row 1", row),
+        (
+            &[1, 0],
+            6,
+            "refusal 14: length wrong, octets needed in the bodies: 7",
+            "",
+        ),
+        (
+            &[1, 0],
+            7,
+            "refusal 3: reserved or foreign bits set, at octet 6 of the bodies",
+            row,
+        ),
+    ];
+    for (rows, bodies, words, more) in cases {
+        says(write(rows, bodies, 0), &format!("{words}{more}"));
+    }
+    says(
+        write(&[1; 402], 0, 0),
+        "refusal 1: too long, at most 200 rows and 1400 octets are allowed",
+    );
+    let short = moult::write(&[1, 0], &[0; 7], &mut [0; 6]).unwrap_err();
+    says(
+        short,
+        "refusal 10: octet buffer too short, octets needed: 7",
+    );
+}
+
+#[test]
+fn of_time_and_settings() {
+    let time = moult::ptime(2400, 0).unwrap_err();
+    says(time, "refusal 12: unknown kind, rate or number of frames");
+    let wrong = "refusal 15: setting text or settings wrong";
+    says("tcmax=".parse::<Settings>().unwrap_err(), wrong);
+    for rates in [
+        &[0][..],
+        &[],
+        &[2400, 0],
+        &[600, 600],
+        &[2400, 1200, 600, 600],
+    ] {
+        says(Settings::new(rates, 35).unwrap_err(), wrong);
+    }
+    let settings = Settings::new(&[600], 9).unwrap();
+    let short = settings.write(&mut [0; 3]).unwrap_err();
+    says(
+        short,
+        "refusal 10: octet buffer too short, octets needed: 19",
+    );
+}
+
+#[test]
+fn of_fields() {
+    let unpack = |mode, body: &[u8]| moult::unpack(mode, body, &mut []).unwrap_err();
+    let pack = |fields: &[u16]| moult::pack(1, fields, &mut []).unwrap_err();
+    says(unpack(9, &[]), "refusal 16: mode not 1 to 3");
+    says(
+        unpack(1, &[]),
+        "refusal 14: length wrong, octets needed in the body: 7",
+    );
+    says(
+        unpack(1, &[64; 7]),
+        "refusal 3: reserved or foreign bits set, at octet 6 of the body (from 0)",
+    );
+    says(
+        unpack(1, &[0; 7]),
+        "refusal 9: number list too short, fields needed: 11",
+    );
+    says(pack(&[]), "refusal 14: length wrong, fields needed: 11");
+    let mut fields = [0; 11];
+    says(
+        pack(&fields),
+        "refusal 10: octet buffer too short, octets needed: 7",
+    );
+    fields[10] = 128;
+    says(
+        pack(&fields),
+        "refusal 17: field too large, at field 10 (from 0)",
+    );
+}

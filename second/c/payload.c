@@ -1,0 +1,354 @@
+/* Reader, writer, count, times and views: a walk from the end, then a second pass that fills;
+   nothing is written before all checks have passed. */
+#include "second.h"
+
+#include <string.h>
+
+/* What a frame's kind fixes. */
+typedef struct {
+    uint16_t rate; /* 0 for comfort noise, which has none */
+    uint8_t base;  /* octets of the body without augmentation */
+    uint8_t end;   /* largest last octet of the base, in a body */
+    uint8_t code;  /* rate code bits that stand in it on the wire */
+    uint8_t least; /* TC, from .. */
+    uint8_t most;  /* .. to */
+} kind_row;
+
+static const kind_row kinds[] = {
+    [MOULT_KIND_2400] = {2400, 7, 63, 0, 0, 0},
+    [MOULT_KIND_1200] = {1200, 11, 1, 128, 0, 0},
+    [MOULT_KIND_600] = {600, 7, 63, 64, 0, 0},
+    [MOULT_KIND_COMFORT_NOISE] = {0, 2, 31, 160, 0, 0},
+    [MOULT_KIND_TSVCIS] = {2400, 7, 63, 0, 1, 255},
+};
+
+static inline int is_kind(uint16_t kind)
+{
+    return kind > 0 && kind < sizeof kinds / sizeof kinds[0];
+}
+
+static inline int fits_kind(uint16_t kind, uint16_t tc)
+{
+    return tc >= kinds[kind].least && tc <= kinds[kind].most;
+}
+
+static inline size_t body_octets(uint16_t kind, size_t tc)
+{
+    return kinds[kind].base + tc;
+}
+
+/* TC 15 to 77 stands in a short count, any other in a long one; kinds 1 to 4 have no count. */
+static inline size_t count_octets(size_t tc)
+{
+    return tc == 0 ? 0 : tc >= 15 && tc <= 77 ? 1 : 2;
+}
+
+static inline size_t ticks_of(uint32_t rate)
+{
+    return rate == 2400 ? 180 : rate == 1200 ? 540 : rate == 600 ? 720 : 0;
+}
+
+size_t second_body_octets(uint16_t kind, uint16_t tc)
+{
+    return is_kind(kind) && fits_kind(kind, tc) ? body_octets(kind, tc) : 0;
+}
+
+/* ---- from octets */
+
+typedef struct {
+    uint16_t kind;
+    size_t tc;
+    size_t base; /* as in its kind's row, which is a constant where a frame is named */
+    size_t wire; /* its octets */
+    uint32_t rate;
+    uint32_t code;
+} frame;
+
+static inline frame frame_of(uint16_t kind, size_t tc, size_t count)
+{
+    kind_row k = kinds[kind];
+    frame f = {kind, tc, k.base, k.base + tc + count, k.rate, k.code};
+    return f;
+}
+
+/* Names the frame that ends at `unread`; gives 0 or the refusal number. */
+static inline uint32_t name(const uint8_t *p, size_t unread, frame *f)
+{
+    uint32_t last = p[unread - 1];
+    if (last < 64) {
+        *f = frame_of(MOULT_KIND_2400, 0, 0);
+    } else if (last < 128) {
+        *f = frame_of(MOULT_KIND_600, 0, 0);
+    } else if (last < 130) {
+        *f = frame_of(MOULT_KIND_1200, 0, 0);
+    } else if (last < 160) {
+        return MOULT_RESERVED_BITS;
+    } else if (last < 192) {
+        *f = frame_of(MOULT_KIND_COMFORT_NOISE, 0, 0);
+    } else if (last < 255) {
+        *f = frame_of(MOULT_KIND_TSVCIS, last - 192 + 15, 1);
+    } else {
+        if (unread == 1)
+            return MOULT_FRAME_CUT;
+        size_t tc = p[unread - 2];
+        if (tc == 0)
+            return MOULT_LONG_COUNT_ZERO;
+        if (tc >= 15 && tc <= 77)
+            return MOULT_LONG_COUNT_SHORT_RANGE;
+        *f = frame_of(MOULT_KIND_TSVCIS, tc, 2);
+    }
+    return 0;
+}
+
+/* The same, of a frame that a walk has passed. */
+static inline frame passed(const uint8_t *p, size_t unread)
+{
+    frame f;
+    if (name(p, unread, &f))
+        __builtin_unreachable();
+    return f;
+}
+
+/* The frame that ends at `unread`, `later` frames being read, with the rate of their coder frames
+   (0 where there are none); gives 0 or the refusal number. */
+static inline uint32_t step(const uint8_t *p, size_t unread, size_t later, uint32_t rate, frame *f)
+{
+    uint32_t number = name(p, unread, f);
+    if (number)
+        return number;
+    if (unread < f->wire)
+        return MOULT_FRAME_CUT;
+    if (f->kind == MOULT_KIND_COMFORT_NOISE)
+        return later ? MOULT_COMFORT_NOISE_NOT_LAST : 0;
+    if (f->tc && p[unread - f->wire + 6] > 63)
+        return MOULT_AUGMENTATION_NOT_2400;
+    if (rate && rate != f->rate)
+        return MOULT_RATES_MIXED;
+    return 0;
+}
+
+static inline second_walked walk_refused(uint32_t number, size_t place)
+{
+    second_walked w = {number, 0, place, 0, 0, 0};
+    return w;
+}
+
+/* Inlined where it is asked, so that its answer stays in registers. */
+static inline __attribute__((always_inline)) second_walked walk(const uint8_t *p, size_t n)
+{
+    second_walked w = {0, 0, 0, 0, 0, 0};
+    size_t coders = 0;
+    if (n > MOULT_MAX_OCTETS)
+        return walk_refused(MOULT_TOO_LONG, MOULT_MAX_OCTETS);
+    for (size_t unread = n; unread;) {
+        frame f;
+        uint32_t number = step(p, unread, w.frames, w.rate, &f);
+        if (number)
+            return walk_refused(number, unread);
+        unread -= f.wire;
+        w.frames++;
+        w.octets += f.base + f.tc;
+        if (f.rate) {
+            w.rate = f.rate;
+            coders++;
+        }
+    }
+    w.ticks = coders * ticks_of(w.rate);
+    return w;
+}
+
+second_walked second_walk(const uint8_t *payload, size_t n)
+{
+    return walk(payload, n);
+}
+
+int32_t second_count(const uint8_t *payload, size_t n)
+{
+    second_walked w = walk(payload, n);
+    return w.number ? -(int32_t)w.number : (int32_t)w.frames;
+}
+
+moult_ticks second_packet_ticks(const uint8_t *payload, size_t n)
+{
+    second_walked w = walk(payload, n);
+    moult_ticks t = {w.number, w.place, w.ticks};
+    return t;
+}
+
+moult_millis second_ptime(uint32_t rate, size_t frames)
+{
+    moult_millis t = {0, 0, 0};
+    if (ticks_of(rate) == 0 || frames == 0 || frames > MOULT_MAX_FRAMES)
+        t.number = MOULT_UNKNOWN;
+    else
+        t.millis = (frames * ticks_of(rate) + 7) / 8;
+    return t;
+}
+
+static void fill(const uint8_t *p, size_t n, uint16_t *rows, size_t frames, uint8_t *bodies,
+                 size_t octets)
+{
+    size_t unread = n;
+    while (unread) {
+        frame f = passed(p, unread);
+        size_t body = f.base + f.tc;
+        unread -= f.wire;
+        frames--;
+        octets -= body;
+        rows[2 * frames] = f.kind;
+        rows[2 * frames + 1] = (uint16_t)f.tc;
+        if (body == 7)
+            memcpy(bodies + octets, p + unread, 7);
+        else
+            memcpy(bodies + octets, p + unread, body);
+        uint8_t *end = bodies + octets + f.base - 1;
+        *end = (uint8_t)(*end - f.code);
+    }
+}
+
+static moult_reading read_refused(uint32_t number, size_t place)
+{
+    moult_reading r = {number, 0, place, 0, 0, 0};
+    return r;
+}
+
+moult_reading second_read(const uint8_t *payload, size_t n, uint16_t *rows, size_t rows_n,
+                          uint8_t *bodies, size_t bodies_n)
+{
+    second_walked w = walk(payload, n);
+    if (w.number)
+        return read_refused(w.number, w.place);
+    if (rows_n / 2 < w.frames)
+        return read_refused(MOULT_NUMBERS_TOO_SHORT, w.frames);
+    if (bodies_n < w.octets)
+        return read_refused(MOULT_OCTETS_TOO_SHORT, w.octets);
+    fill(payload, n, rows, w.frames, bodies, w.octets);
+    moult_reading r = {0, w.rate, 0, w.frames, w.octets, w.ticks};
+    return r;
+}
+
+/* The frame of a row: walks back over the rows behind it. 0 if it is missing. */
+static int locate(const uint8_t *p, size_t n, size_t row, size_t *start, frame *f)
+{
+    second_walked w = walk(p, n);
+    if (w.number || row >= w.frames)
+        return 0;
+    size_t unread = n;
+    for (size_t i = w.frames; i > row; i--) {
+        *f = passed(p, unread);
+        unread -= f->wire;
+    }
+    *start = unread;
+    return 1;
+}
+
+moult_part second_augmentation(const uint8_t *payload, size_t n, size_t row)
+{
+    moult_part part = {0, 0, 0};
+    frame f;
+    size_t start;
+    if (locate(payload, n, row, &start, &f) && f.tc) {
+        part.start = start + f.base;
+        part.length = f.tc;
+    }
+    return part;
+}
+
+moult_part second_frame_or(const uint8_t *payload, size_t n, size_t row, const uint8_t *stand_in,
+                           size_t stand_in_n)
+{
+    moult_part part = {1, 0, stand_in_n};
+    frame f;
+    size_t start;
+    (void)stand_in;
+    if (locate(payload, n, row, &start, &f)) {
+        part.stand_in = 0;
+        part.start = start;
+        part.length = f.wire;
+    }
+    return part;
+}
+
+/* ---- to octets */
+
+static moult_writing writing(uint32_t number, size_t place, size_t octets)
+{
+    moult_writing w = {number, place, octets};
+    return w;
+}
+
+/* A row by itself and behind coder rows of a rate (0 where there are none); gives 0 or the refusal
+   number. */
+static inline uint32_t row_refusal(const uint16_t *rows, size_t frames, size_t row, uint32_t rate)
+{
+    uint16_t kind = rows[2 * row], tc = rows[2 * row + 1];
+    if (!is_kind(kind))
+        return MOULT_UNKNOWN;
+    if (!fits_kind(kind, tc))
+        return MOULT_WRONG_TC;
+    if (kind == MOULT_KIND_COMFORT_NOISE)
+        return row + 1 < frames ? MOULT_COMFORT_NOISE_NOT_LAST : 0;
+    return rate && rate != kinds[kind].rate ? MOULT_RATES_MIXED : 0;
+}
+
+static inline void put_frame(uint16_t kind, uint16_t tc, const uint8_t *body, uint8_t *out)
+{
+    size_t length = body_octets(kind, tc);
+    if (length == 7)
+        memcpy(out, body, 7);
+    else
+        memcpy(out, body, length);
+    uint8_t *end = out + kinds[kind].base - 1;
+    *end = (uint8_t)(*end + kinds[kind].code);
+    if (tc == 0)
+        return;
+    if (count_octets(tc) == 1) {
+        out[length] = (uint8_t)(192 + tc - 15);
+    } else {
+        out[length] = (uint8_t)tc;
+        out[length + 1] = 255;
+    }
+}
+
+moult_writing second_write(const uint16_t *rows, size_t rows_n, const uint8_t *bodies,
+                           size_t bodies_n, uint8_t *out, size_t out_n)
+{
+    size_t frames = rows_n / 2, wire = 0, sum = 0;
+    uint32_t rate = 0;
+    if (rows_n % 2)
+        return writing(MOULT_ODD_ROWS, rows_n, 0);
+    if (frames > MOULT_MAX_FRAMES)
+        return writing(MOULT_TOO_LONG, MOULT_MAX_OCTETS, 0);
+    for (size_t i = 0; i < frames; i++) {
+        uint32_t number = row_refusal(rows, frames, i, rate);
+        if (number)
+            return writing(number, i, 0);
+        uint16_t kind = rows[2 * i], tc = rows[2 * i + 1];
+        if (kind != MOULT_KIND_COMFORT_NOISE)
+            rate = kinds[kind].rate;
+        sum += body_octets(kind, tc);
+        wire += body_octets(kind, tc) + count_octets(tc);
+    }
+    if (wire > MOULT_MAX_OCTETS)
+        return writing(MOULT_TOO_LONG, MOULT_MAX_OCTETS, 0);
+    if (bodies_n != sum)
+        return writing(MOULT_WRONG_LENGTH, sum, 0);
+    size_t at = 0;
+    for (size_t i = 0; i < frames; i++) {
+        uint16_t kind = rows[2 * i];
+        size_t end = at + kinds[kind].base - 1;
+        if (bodies[end] > kinds[kind].end)
+            return writing(MOULT_RESERVED_BITS, end, 0);
+        at = end + 1 + rows[2 * i + 1];
+    }
+    if (out_n < wire)
+        return writing(MOULT_OCTETS_TOO_SHORT, wire, 0);
+    size_t from = 0, to = 0;
+    for (size_t i = 0; i < frames; i++) {
+        uint16_t kind = rows[2 * i], tc = rows[2 * i + 1];
+        put_frame(kind, tc, bodies + from, out + to);
+        from += body_octets(kind, tc);
+        to += body_octets(kind, tc) + count_octets(tc);
+    }
+    return writing(0, 0, wire);
+}

@@ -1,0 +1,226 @@
+#define _DEFAULT_SOURCE
+#include "compare.h"
+
+#include <stdio.h>
+#include <stdlib.h>
+#include <string.h>
+#include <sys/mman.h>
+#include <unistd.h>
+
+#define MUST(what)                                                                          \
+    do {                                                                                    \
+        if (!(what)) {                                                                      \
+            fprintf(stderr, "%s:%d: the library differs: %s\n", __FILE__, __LINE__, #what); \
+            abort();                                                                        \
+        }                                                                                   \
+    } while (0)
+
+enum { GUARD = 16, FILL = 0xA5, ROOM = MOULT_MAX_OCTETS + 64 };
+
+/* Buffers lent to be written, and what is wanted in them. */
+static uint8_t octets[GUARD + ROOM], wanted_octets[GUARD + ROOM];
+static uint16_t numbers[GUARD + ROOM], wanted_numbers[GUARD + ROOM];
+
+static void lend(void)
+{
+    memset(octets, FILL, sizeof octets);
+    memset(wanted_octets, FILL, sizeof wanted_octets);
+    memset(numbers, FILL, sizeof numbers);
+    memset(wanted_numbers, FILL, sizeof wanted_numbers);
+}
+
+/* An input lent to be read: at an edge of the middle one of three parts of memory, the others of
+   which can't be read. Nothing is watched inside the library, so this is what shows a read outside. */
+typedef struct {
+    uint8_t *start;
+    uint8_t *lent;
+    size_t n;
+    uint8_t before[COMPARE_OCTETS];
+} input;
+
+/* Bodies are lent beside rows; any other input is the only one. */
+static input first_lent, bodies_lent;
+static int is_in_front;
+
+void compare_in_front(int in_front)
+{
+    is_in_front = in_front;
+}
+
+/* The middle part's size: whole pages. */
+static size_t middle(void)
+{
+    size_t page = (size_t)sysconf(_SC_PAGESIZE);
+    return (COMPARE_OCTETS + page - 1) / page * page;
+}
+
+static const void *lend_input(input *to, const void *data, size_t n)
+{
+    if (to->start == NULL) {
+        void *got = mmap(NULL, 3 * middle(), PROT_NONE, MAP_PRIVATE | MAP_ANONYMOUS, -1, 0);
+        if (got == MAP_FAILED)
+            abort();
+        to->start = got;
+        if (mprotect(to->start + middle(), middle(), PROT_READ | PROT_WRITE) != 0)
+            abort();
+    }
+    if (n > COMPARE_OCTETS)
+        abort();
+    to->n = n;
+    to->lent = to->start + (is_in_front ? middle() : 2 * middle() - n);
+    if (n > 0) {
+        memcpy(to->lent, data, n);
+        memcpy(to->before, data, n);
+    }
+    return to->lent;
+}
+
+static int unchanged(const input *lent)
+{
+    return lent->n == 0 || memcmp(lent->lent, lent->before, lent->n) == 0;
+}
+
+/* All memory lent to be written, with some on both sides, is as the second implementation left its
+   own, and the inputs are as they were. */
+static void compare_memory(void)
+{
+    MUST(memcmp(octets, wanted_octets, sizeof octets) == 0);
+    MUST(memcmp(numbers, wanted_numbers, sizeof numbers) == 0);
+    MUST(unchanged(&first_lent) && unchanged(&bodies_lent));
+}
+
+static void compare_writing(moult_writing got, moult_writing wanted)
+{
+    MUST(got.number == wanted.number && got.place == wanted.place && got.octets == wanted.octets);
+    compare_memory();
+}
+
+static size_t room(size_t needed, int more)
+{
+    if (more < 0 && needed < (size_t)-more)
+        return 0;
+    size_t n = more < 0 ? needed - (size_t)-more : needed + (size_t)more;
+    if (n > ROOM - GUARD)
+        abort();
+    return n;
+}
+
+/* What was read, written: the payload again. */
+static void compare_back(const uint8_t *payload, size_t n, moult_reading r)
+{
+    static uint8_t back[MOULT_MAX_OCTETS];
+    moult_writing w = moult_write(numbers + GUARD, 2 * r.rows, octets + GUARD, r.octets, back, n);
+    MUST(w.number == 0 && w.octets == n && (n == 0 || memcmp(back, payload, n) == 0));
+}
+
+static void compare_read(const uint8_t *payload, size_t n, int more_numbers, int more_octets)
+{
+    second_walked w = second_walk(payload, n);
+    size_t rows_n = room(2 * w.frames, more_numbers), bodies_n = room(w.octets, more_octets);
+    lend();
+    moult_reading got = moult_read(payload, n, numbers + GUARD, rows_n, octets + GUARD, bodies_n);
+    moult_reading wanted = second_read(payload, n, wanted_numbers + GUARD, rows_n,
+                                       wanted_octets + GUARD, bodies_n);
+    MUST(got.number == wanted.number && got.place == wanted.place);
+    MUST(got.rows == wanted.rows && got.octets == wanted.octets);
+    MUST(got.rate == wanted.rate && got.ticks == wanted.ticks);
+    compare_memory();
+    if (got.number == 0)
+        compare_back(payload, n, got);
+}
+
+static void compare_part(moult_part got, moult_part wanted)
+{
+    MUST(got.stand_in == wanted.stand_in);
+    MUST(got.start == wanted.start && got.length == wanted.length);
+}
+
+static void compare_view(const uint8_t *payload, size_t n, size_t row)
+{
+    /* A stand-in is never looked at, so it need not be readable. */
+    const uint8_t *stand_in = first_lent.start;
+    compare_part(moult_augmentation(payload, n, row), second_augmentation(payload, n, row));
+    compare_part(moult_frame_or(payload, n, row, stand_in, 9),
+                 second_frame_or(payload, n, row, stand_in, 9));
+}
+
+void compare_payload(const uint8_t *data, size_t n, int more_numbers, int more_octets)
+{
+    const uint8_t *payload = lend_input(&first_lent, data, n);
+    compare_read(payload, n, more_numbers, more_octets);
+    moult_ticks got = moult_packet_ticks(payload, n), wanted = second_packet_ticks(payload, n);
+    MUST(got.number == wanted.number && got.place == wanted.place && got.ticks == wanted.ticks);
+    MUST(moult_count(payload, n) == second_count(payload, n));
+    for (size_t row = 0; row <= second_walk(payload, n).frames; row++)
+        compare_view(payload, n, row);
+    compare_view(payload, n, SIZE_MAX);
+    compare_memory();
+}
+
+void compare_write(const uint16_t *row_list, size_t rows_n, const uint8_t *body_list,
+                   size_t bodies_n, int more)
+{
+    const uint16_t *rows = lend_input(&first_lent, row_list, rows_n * sizeof *rows);
+    const uint8_t *bodies = lend_input(&bodies_lent, body_list, bodies_n);
+    lend();
+    moult_writing full = second_write(rows, rows_n, bodies, bodies_n, wanted_octets + GUARD,
+                                      MOULT_MAX_OCTETS);
+    size_t out_n = room(full.octets, more);
+    lend();
+    compare_writing(moult_write(rows, rows_n, bodies, bodies_n, octets + GUARD, out_n),
+                    second_write(rows, rows_n, bodies, bodies_n, wanted_octets + GUARD, out_n));
+}
+
+void compare_body_octets(uint16_t kind, uint16_t tc)
+{
+    MUST(moult_body_octets(kind, tc) == second_body_octets(kind, tc));
+}
+
+void compare_ptime(uint32_t rate, size_t frames)
+{
+    moult_millis got = moult_ptime(rate, frames), wanted = second_ptime(rate, frames);
+    MUST(got.number == wanted.number && got.place == wanted.place && got.millis == wanted.millis);
+}
+
+void compare_settings_read(const uint8_t *data, size_t n)
+{
+    const uint8_t *text = lend_input(&first_lent, data, n);
+    moult_settings_reading got = moult_settings_read(text, n);
+    moult_settings_reading wanted = second_settings_read(text, n);
+    MUST(got.number == wanted.number && got.place == wanted.place);
+    MUST(got.settings.first == wanted.settings.first);
+    MUST(got.settings.second == wanted.settings.second);
+    MUST(got.settings.third == wanted.settings.third);
+    MUST(got.settings.tcmax == wanted.settings.tcmax);
+    MUST(unchanged(&first_lent));
+}
+
+void compare_settings_write(moult_settings s, int more)
+{
+    uint8_t text[MOULT_MAX_SETTINGS];
+    size_t n = second_settings_write(s.first, s.second, s.third, s.tcmax, text, sizeof text).octets;
+    size_t out_n = room(n, more);
+    lend();
+    compare_writing(
+        moult_settings_write(s.first, s.second, s.third, s.tcmax, octets + GUARD, out_n),
+        second_settings_write(s.first, s.second, s.third, s.tcmax, wanted_octets + GUARD, out_n));
+}
+
+void compare_unpack(uint8_t mode, const uint8_t *data, size_t body_n, int more)
+{
+    uint16_t all[MOULT_MAX_FIELDS];
+    const uint8_t *body = lend_input(&first_lent, data, body_n);
+    size_t fields_n = room(second_unpack(mode, body, body_n, all, MOULT_MAX_FIELDS).octets, more);
+    lend();
+    compare_writing(moult_unpack(mode, body, body_n, numbers + GUARD, fields_n),
+                    second_unpack(mode, body, body_n, wanted_numbers + GUARD, fields_n));
+}
+
+void compare_pack(uint8_t mode, const uint16_t *data, size_t fields_n, int more)
+{
+    const uint16_t *fields = lend_input(&first_lent, data, fields_n * sizeof *fields);
+    size_t out_n = room(MOULT_BODY_600, more);
+    lend();
+    compare_writing(moult_pack(mode, fields, fields_n, octets + GUARD, out_n),
+                    second_pack(mode, fields, fields_n, wanted_octets + GUARD, out_n));
+}

@@ -1,0 +1,25 @@
+/* The library beside the second C implementation, call by call: the same answer, the same memory
+   behind it, and nothing read or written outside what was lent. A difference is named, and ends the
+   run. What is lent to be filled has room for what is needed and `more` (at least none): -1 is one
+   too few. Inputs have at most COMPARE_OCTETS octets or half as many numbers. */
+#ifndef COMPARE_H
+#define COMPARE_H
+
+#include "second.h"
+
+enum { COMPARE_OCTETS = 4096 };
+
+/* Inputs are lent where memory ends behind them (0, as at the start) or in front of them (1). */
+void compare_in_front(int in_front);
+
+void compare_payload(const uint8_t *payload, size_t n, int more_numbers, int more_octets);
+void compare_write(const uint16_t *rows, size_t rows_n, const uint8_t *bodies, size_t bodies_n,
+                   int more);
+void compare_body_octets(uint16_t kind, uint16_t tc);
+void compare_ptime(uint32_t rate, size_t frames);
+void compare_settings_read(const uint8_t *text, size_t n);
+void compare_settings_write(moult_settings settings, int more);
+void compare_unpack(uint8_t mode, const uint8_t *body, size_t body_n, int more);
+void compare_pack(uint8_t mode, const uint16_t *fields, size_t fields_n, int more);
+
+#endif
