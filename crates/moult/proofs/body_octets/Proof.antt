@@ -4,9 +4,6 @@ use borrow.Author.Needs.{needs}
 use Rattle.moult.proofs.body_octets.Statement.{statement}
 use Rattle.moult.proofs.body_octets.Tie as tie
 
-shape-of-requires : tie.Need-shape-of-requires
-shape-of-requires c κs = search needs
-
 returns : tie.Need-returns
 returns c = octets-below _ _ (c .before .before .shape-of .ensures) (c .if1 .taken)
 
@@ -17,4 +14,4 @@ returns-3 : tie.Need-returns-3
 returns-3 c = octets-there _ _ (c .before .before .before .before .shape-of .ensures) (c .before .before .if1 .left) (c .if2 .left)
 
 pub body-octets-spec : {M : Type 1} → statement M
-body-octets-spec = tie.close (tie.spec shape-of-requires returns returns-2 returns-3)
+body-octets-spec = tie.close (tie.spec (λ c κs. search needs) returns returns-2 returns-3)

@@ -4,15 +4,6 @@ use borrow.Author.Needs.{needs}
 use Rattle.moult.proofs.moult_frame_or.Statement.{statement}
 use Rattle.moult.proofs.moult_frame_or.Tie as tie
 
-locate-requires : tie.Need-locate-requires
-locate-requires c κs = search needs
-
-enum-told : tie.Need-enum-told
-enum-told c = search needs
-
-enum-known-location : tie.Need-enum-known-location
-enum-known-location c = search needs
-
 returns : tie.Need-returns
 returns c = frame-none _ _ (λ i. c .before .before .before .before .shared-slice-known .given i .fits) (c .before .before .locate .ensures .answer) _ (c .enum-told .given .1)
 
@@ -21,4 +12,4 @@ returns-2 c = frame-there _ _ (λ i. c .before .before .before .before .before .
 
 pub moult-frame-or-spec : {M : Type 1} → statement M
 moult-frame-or-spec =
-    tie.close (tie.spec locate-requires enum-told enum-known-location returns returns-2)
+    tie.close (tie.spec (λ c κs. search needs) (λ c. search needs) (λ c. search needs) returns returns-2)

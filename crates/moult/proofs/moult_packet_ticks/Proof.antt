@@ -4,18 +4,6 @@ use borrow.Author.Needs.{needs}
 use Rattle.moult.proofs.moult_packet_ticks.Statement.{statement}
 use Rattle.moult.proofs.moult_packet_ticks.Tie as tie
 
-packet-ticks-requires : tie.Need-packet-ticks-requires
-packet-ticks-requires c κs = search needs
-
-enum-known-answer : tie.Need-enum-known-answer
-enum-known-answer c = search needs
-
-enum-known-answer-2 : tie.Need-enum-known-answer-2
-enum-known-answer-2 c = search needs
-
-cast-t6 : tie.Need-cast-t6
-cast-t6 c = search needs
-
 returns : tie.Need-returns
 returns c = returned (c .before .before .before .packet-ticks .ensures) (c .before .answer .given .1)
 
@@ -26,9 +14,9 @@ pub moult-packet-ticks-spec : {M : Type 1} → statement M
 moult-packet-ticks-spec =
     tie.close
     (tie.spec
-    packet-ticks-requires
-    enum-known-answer
-    enum-known-answer-2
-    cast-t6
+    (λ c κs. search needs)
+    (λ c. search needs)
+    (λ c. search needs)
+    (λ c. search needs)
     returns
     returns-2)

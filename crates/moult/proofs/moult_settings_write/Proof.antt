@@ -4,29 +4,8 @@ use borrow.Author.Needs.{needs}
 use Rattle.moult.proofs.moult_settings_write.Statement.{statement}
 use Rattle.moult.proofs.moult_settings_write.Tie as tie
 
-write-requires : tie.Need-write-requires
-write-requires c κs = search needs
-
-enum-known-answer : tie.Need-enum-known-answer
-enum-known-answer c = search needs
-
-written-requires : tie.Need-written-requires
-written-requires c κs = search needs
-
-enum-known-answer-2 : tie.Need-enum-known-answer-2
-enum-known-answer-2 c = search needs
-
-not-written-requires : tie.Need-not-written-requires
-not-written-requires c κs = search needs
-
-same-length : tie.Need-same-length
-same-length c = search needs
-
 returns : tie.Need-returns
 returns c = returned-by (c .written .ensures) (c .before .before .before .before .before .before .write .ensures) (c .before .before .answer .given .1)
-
-same-length-2 : tie.Need-same-length-2
-same-length-2 c = search needs
 
 returns-2 : tie.Need-returns-2
 returns-2 c = returned-by (c .not-written .ensures) (c .before .before .before .before .before .before .write .ensures) (c .before .before .answer2 .given .1)
@@ -35,12 +14,12 @@ pub moult-settings-write-spec : {M : Type 1} → statement M
 moult-settings-write-spec =
     tie.close
     (tie.spec
-    write-requires
-    enum-known-answer
-    written-requires
-    enum-known-answer-2
-    not-written-requires
-    same-length
+    (λ c κs. search needs)
+    (λ c. search needs)
+    (λ c κs. search needs)
+    (λ c. search needs)
+    (λ c κs. search needs)
+    (λ c. search needs)
     returns
-    same-length-2
+    (λ c. search needs)
     returns-2)
