@@ -6,7 +6,7 @@
        uint8_t bodies[MOULT_MAX_OCTETS];
        moult_reading r = moult_read(payload, n, rows, MOULT_MAX_NUMBERS, bodies, MOULT_MAX_OCTETS);
        if (r.number != MOULT_ACCEPTED)
-           printf("refused at %zu: %s\n", r.place, moult_refusal_text(r.number));
+           printf("refused %u (%s), place %zu\n", r.number, moult_refusal_text(r.number), r.place);
        const uint8_t *body = bodies;
        for (size_t i = 0; i < r.rows; i++) {
            uint16_t kind = rows[2 * i], tc = rows[2 * i + 1];
@@ -58,18 +58,19 @@ extern "C" {
 #define MOULT_MAX_FIELDS 11
 #define MOULT_BODY_600 7
 
-/* Kinds of frames, the first number of a row. */
+/* Kinds of frames, the first number of a row, with the last octet of the frame on the wire. */
 enum {
-    MOULT_KIND_2400 = 1,          /* body of 7 octets, last at most 63 */
-    MOULT_KIND_1200 = 2,          /* body of 11 octets, last at most 1 */
-    MOULT_KIND_600 = 3,           /* body of 7 octets, last at most 63 */
-    MOULT_KIND_COMFORT_NOISE = 4, /* body of 2 octets, last at most 31 */
+    MOULT_KIND_2400 = 1,          /* body of 7 octets, last at most 63; on the wire 0 to 63 */
+    MOULT_KIND_1200 = 2,          /* body of 11 octets, last at most 1; on the wire 128, 129 */
+    MOULT_KIND_600 = 3,           /* body of 7 octets, last at most 63; on the wire 64 to 127 */
+    MOULT_KIND_COMFORT_NOISE = 4, /* body of 2 octets, last at most 31; on the wire 160 to 191 */
     MOULT_KIND_TSVCIS = 5         /* body of 7 + TC octets, the seventh at most 63: a 2400 bps frame
-                                     and its augmentation; TC is 1 to 255 */
+                                     and its augmentation; TC is 1 to 255. On the wire its count
+                                     follows: 192 + (TC - 15) for TC 15 to 77, else TC and 255 */
 };
 
-/* Refusal numbers. "Unread" is the number of octets from the payload's start up to the end of the
-   refused frame: payloads are read from the last frame to the first. */
+/* Refusal numbers. Payloads are read from the last frame to the first, and "unread" is how many
+   octets were left then, the refused frame's included: its last octet is payload[place - 1]. */
 enum {
     MOULT_ACCEPTED = 0,
     MOULT_TOO_LONG = 1,                /* place: 1400 */
@@ -80,8 +81,10 @@ enum {
     MOULT_LONG_COUNT_SHORT_RANGE = 5,  /* long count of 15 to 77; place: unread */
     MOULT_COMFORT_NOISE_NOT_LAST = 6,  /* place: unread; writer: row, from 0 */
     MOULT_AUGMENTATION_NOT_2400 = 7,   /* place: unread */
-    MOULT_RATES_MIXED = 8,             /* place: unread; writer: row, from 0 */
-    MOULT_NUMBERS_TOO_SHORT = 9,       /* number list; place: rows needed, or fields needed */
+    MOULT_RATES_MIXED = 8,             /* place: unread (the later frames set the rate); writer:
+                                          row, from 0 (the earlier rows do) */
+    MOULT_NUMBERS_TOO_SHORT = 9,       /* number list; place: rows needed (two numbers each), or
+                                          fields needed */
     MOULT_OCTETS_TOO_SHORT = 10,       /* octet buffer; place: octets needed */
     MOULT_ODD_ROWS = 11,               /* place: length of the row list */
     MOULT_UNKNOWN = 12,                /* kind, rate or number of frames; place: writer: row, from
@@ -158,14 +161,15 @@ int32_t moult_count(const uint8_t *payload, size_t n);
 
 /* Reads a payload of n octets: for each frame, oldest first, its kind and TC into rows, and its
    body into bodies.
-   Refuses 1, then from the last frame to the first 2, 4, 5, 3, 2, 6, 7, 8 with the place "unread";
+   Refuses 1, then from the last frame to the first 2 (for a lone 255), 4, 5, 3, 2, 6, 7, 8 with the
+   place "unread";
    then 9 with the rows needed if rows_n, halved and rounded down, is too small, and 10 with the
    octets needed if bodies_n is. MOULT_MAX_NUMBERS and MOULT_MAX_OCTETS are enough for any payload. */
 moult_reading moult_read(const uint8_t *payload, size_t n, uint16_t *rows, size_t rows_n,
                          uint8_t *bodies, size_t bodies_n);
 
-/* The octets of the body of a row: 7, 11, 7, 2 or 7 + TC. 0 where the kind is unknown or the TC is
-   wrong for it; no body has 0 octets. */
+/* The octets of the body of a row: 7, 11, 7, 2 or 7 + TC. 0 where the library does not know the kind
+   or the TC is wrong for it; no body has 0 octets, and it knows every row that moult_read gives. */
 size_t moult_body_octets(uint16_t kind, uint16_t tc);
 
 /* Writes the payload of rows (rows_n numbers, two a frame) and bodies (one after another) into out.
@@ -181,7 +185,8 @@ moult_writing moult_write(const uint16_t *rows, size_t rows_n, const uint8_t *bo
    or 600 bps; comfort noise adds none. Refuses as moult_read does, 1 to 8. */
 moult_ticks moult_packet_ticks(const uint8_t *payload, size_t n);
 
-/* The ptime in milliseconds, rounded up, of 1 to 200 frames at rate 2400, 1200 or 600.
+/* The ptime for settings, in milliseconds rounded up, of 1 to 200 coder frames at rate 2400, 1200 or
+   600. (How long a payload lasts is its ticks, eight to a millisecond.)
    Refuses 12 with place 0 for any other rate or number of frames. */
 moult_millis moult_ptime(uint32_t rate, size_t frames);
 
@@ -195,9 +200,11 @@ moult_part moult_augmentation(const uint8_t *payload, size_t n, size_t row);
 moult_part moult_frame_or(const uint8_t *payload, size_t n, size_t row, const uint8_t *stand_in,
                           size_t stand_in_n);
 
-/* Reads a setting text of n octets, such as "bitrate=2400,600;tcmax=101" (no closing NUL).
-   A missing bitrate means 2400 only, a missing tcmax 35; names in any letter case; no spaces.
-   Refuses 15 with place 0. */
+/* Reads a setting text of n octets, such as "bitrate=2400,600;tcmax=101" (no closing NUL): what
+   stands behind "a=fmtp:97 ". A missing bitrate means 2400 only, a missing tcmax 35, so the empty
+   text is read; names in any letter case.
+   Refuses 15 with place 0: any other name, a name or rate twice, an empty value, a leading zero, a
+   space, a comma or semicolon too many. A host takes out parameters of others first. */
 moult_settings_reading moult_settings_read(const uint8_t *text, size_t n);
 
 /* Writes settings, in moult_settings' order, as text: bitrate and then tcmax, lower case, no

@@ -8,16 +8,16 @@
 
 int main(int argc, char **argv)
 {
-    uint8_t payload[MOULT_MAX_OCTETS];
+    uint8_t payload[MOULT_MAX_OCTETS + 1]; /* one more: the library says what is too long */
     uint16_t rows[MOULT_MAX_NUMBERS];
     uint8_t bodies[MOULT_MAX_OCTETS];
     size_t n = 0;
-    for (int i = 1; i < argc && n < MOULT_MAX_OCTETS; i++)
+    for (int i = 1; i < argc && n < sizeof payload; i++)
         payload[n++] = (uint8_t)strtoul(argv[i], NULL, 16);
     moult_reading r = moult_read(payload, n, rows, MOULT_MAX_NUMBERS, bodies, MOULT_MAX_OCTETS);
     if (r.number != MOULT_ACCEPTED) {
-        printf("refused %u at %zu: %s\n", (unsigned)r.number, r.place,
-               moult_refusal_text(r.number));
+        printf("refused %u (%s), place %zu\n", (unsigned)r.number, moult_refusal_text(r.number),
+               r.place);
         return 1;
     }
     printf("%zu frames, %zu ticks of 1/8000 second\n", r.rows, r.ticks);

@@ -38,7 +38,7 @@ comfort noise: 00 00'
 runs() { # PROGRAM: with the shared library where it needs it
     # shellcheck disable=SC2086
     same "what $1 prints" "$(LD_LIBRARY_PATH=$lib "$1" $payload)" "$printed"
-    same "what $1 prints" "$(LD_LIBRARY_PATH=$lib "$1" 00 A0 00 A0)" "refused 6 at 2: comfort noise not last"
+    same "what $1 prints" "$(LD_LIBRARY_PATH=$lib "$1" 00 A0 00 A0)" "refused 6 (comfort noise not last), place 2"
 }
 is_shared() { # PROGRAM
     readelf -dW "$1" | grep -F "[libmoult.so.$major]" >/dev/null
