@@ -1,8 +1,9 @@
 /* A libFuzzer target: the library beside the second C implementation (tests/c/compare.h). Of an
-   input's first octet the low three bits choose the function, and the highest bit on which side of
+   input's first octet the low four bits choose the function, and the highest bit on which side of
    the lent inputs memory ends: in front (1) or behind (0). The second octet's halves choose the
    rooms lent, low half first: 2 is just enough, 1 is one less. The rest is a payload, rows and
-   bodies, a setting text, settings, fields, a body, or a rate and a number of frames. */
+   bodies, a setting text, settings, fields, a body, a rate and a number of frames, or a journal or
+   what an entry of one is written of. */
 #include "compare.h"
 
 enum { MOST = COMPARE_OCTETS / 2 };
@@ -97,6 +98,21 @@ static void try_ptime(rest data)
     compare_ptime(rate, take_number(&data, sizeof(size_t)));
 }
 
+/* An index in two octets, low first; the journal is the rest. */
+static void try_journal(rest data)
+{
+    size_t at = take_number(&data, 2);
+    compare_journal(data.at, data.n, at);
+}
+
+/* Ticks and source, low octet first; the payload is the rest. */
+static void try_entry_write(rest data, int more)
+{
+    uint64_t ticks = take_number(&data, sizeof(size_t));
+    uint64_t source = take_number(&data, sizeof(size_t));
+    compare_entry_write(ticks, source, data.at, data.n, more);
+}
+
 int LLVMFuzzerTestOneInput(const uint8_t *data, size_t n)
 {
     if (n < 2 || n > MOST)
@@ -105,7 +121,7 @@ int LLVMFuzzerTestOneInput(const uint8_t *data, size_t n)
     unsigned high = data[1] / 16;
     int low_more = data[1] % 16 - 2, high_more = (int)high - 2;
     compare_in_front(data[0] / 128);
-    switch (data[0] & 7) {
+    switch (data[0] & 15) {
     case 0:
         try_write(behind, low_more, high);
         break;
@@ -123,6 +139,12 @@ int LLVMFuzzerTestOneInput(const uint8_t *data, size_t n)
         break;
     case 5:
         try_ptime(behind);
+        break;
+    case 8:
+        try_journal(behind);
+        break;
+    case 9:
+        try_entry_write(behind, low_more);
         break;
     default:
         compare_payload(behind.at, behind.n, low_more, high_more);

@@ -1,6 +1,7 @@
 /* moult: reads and writes RTP payloads of MELPe and TSVCIS speech frames (RFC 8817), and tells
-   their time, setting text (fmtp) and 600 bps fields (RFC 8130). Link with -lmoult, or with
-   libmoult.a; it needs no other library. moult(3) has the whole story; this is a first host:
+   their time, setting text (fmtp) and 600 bps fields (RFC 8130); keeps payloads in a journal. Link
+   with -lmoult, or with libmoult.a; it needs no other library. moult(3) has the whole story; this
+   is a first host:
 
        uint16_t rows[MOULT_MAX_NUMBERS];
        uint8_t bodies[MOULT_MAX_OCTETS];
@@ -57,6 +58,8 @@ extern "C" {
 #define MOULT_MAX_SETTINGS 31
 #define MOULT_MAX_FIELDS 11
 #define MOULT_BODY_600 7
+/* Octets of the longest entry of a journal. */
+#define MOULT_MAX_ENTRY 1412
 
 /* Kinds of frames, the first number of a row, with the last octet of the frame on the wire. */
 enum {
@@ -73,7 +76,8 @@ enum {
    octets were left then, the refused frame's included: its last octet is payload[place - 1]. */
 enum {
     MOULT_ACCEPTED = 0,
-    MOULT_TOO_LONG = 1,                /* place: 1400 */
+    MOULT_TOO_LONG = 1,                /* place: 1400, the limit, also for over 200 rows; journal
+                                          reader: where the entry begins */
     MOULT_FRAME_CUT = 2,               /* cut at its front; place: unread */
     MOULT_RESERVED_BITS = 3,           /* place: unread; writer: index in the lent bodies, counted
                                           from their start; fields: index in the body */
@@ -93,7 +97,10 @@ enum {
     MOULT_WRONG_LENGTH = 14,           /* place: length needed */
     MOULT_WRONG_SETTINGS = 15,         /* text or settings; place: 0 */
     MOULT_WRONG_MODE = 16,             /* place: 0 */
-    MOULT_FIELD_TOO_LARGE = 17         /* place: field, from 0 */
+    MOULT_FIELD_TOO_LARGE = 17,        /* place: field, from 0 */
+    MOULT_BAD_NUMBER = 18,             /* in a journal; place: where the entry begins, from the
+                                          journal's start; writer: 0 */
+    MOULT_ENTRY_CUT = 19               /* cut short; place: where the entry begins */
 };
 
 /* A reading: rows (two numbers each) and body octets put into the lent buffers; the rate of the
@@ -151,6 +158,20 @@ typedef struct {
     size_t place;
     moult_settings settings;
 } moult_settings_reading;
+
+/* What stands at an index of a journal. entries is 1 where it is an entry: its ticks of 1/8000 second
+   since the entry before, its source number (what both mean for the first entry and for a source is
+   the host's), and its payload, from start up to next, where the next entry begins.
+   entries is 0 at the journal's end (number 0) and where refused, and so are all values. */
+typedef struct {
+    uint32_t number;
+    uint32_t entries;
+    size_t place;
+    uint64_t ticks;
+    uint64_t source;
+    size_t start;
+    size_t next;
+} moult_entry;
 
 /* The version of the library that is linked, as MOULT_VERSION. */
 uint32_t moult_version(void);
@@ -224,6 +245,20 @@ moult_writing moult_unpack(uint8_t mode, const uint8_t *body, size_t body_n, uin
 moult_writing moult_pack(uint8_t mode, const uint16_t *fields, size_t fields_n, uint8_t *out,
                          size_t out_n);
 
+/* The entry at index `at` of a journal of n octets: 0, then `next` of each entry, until entries is 0.
+   An index at or behind the journal's end is the end.
+   Refuses with place `at`: at ticks, source and length in turn 18 from the first octet that leaves no
+   good number possible (below 2^32, in the shortest form), 19 where the journal ends inside it; then
+   1 for a length over 1,400; 19 for a payload cut short. The entries before a refusal stand. */
+moult_entry moult_journal_entry_at(const uint8_t *journal, size_t n, size_t at);
+
+/* Writes one entry of a journal into out; entries one after another are a journal. Any payload of up
+   to 1,400 octets may be written, one that moult_read refuses, too.
+   Refuses 18 with place 0 for ticks or source of 2^32 or more; 1 with place 1400; 10 with the octets
+   needed. MOULT_MAX_ENTRY are enough for any entry. */
+moult_writing moult_journal_write_entry(uint64_t ticks, uint64_t source, const uint8_t *payload,
+                                        size_t payload_n, uint8_t *out, size_t out_n);
+
 /* A refusal number in English, for a log. Of a moult_count below 0 it is the number with the sign
    taken away. */
 static inline const char *moult_refusal_text(uint32_t number)
@@ -265,6 +300,10 @@ static inline const char *moult_refusal_text(uint32_t number)
         return "mode not 1 to 3";
     case MOULT_FIELD_TOO_LARGE:
         return "field too large";
+    case MOULT_BAD_NUMBER:
+        return "bad number";
+    case MOULT_ENTRY_CUT:
+        return "entry cut short";
     default:
         return "refused, by a number that this header does not know";
     }

@@ -37,5 +37,8 @@ moult_writing second_unpack(uint8_t mode, const uint8_t *body, size_t body_n, ui
                             size_t fields_n);
 moult_writing second_pack(uint8_t mode, const uint16_t *fields, size_t fields_n, uint8_t *out,
                           size_t out_n);
+moult_entry second_journal_entry_at(const uint8_t *journal, size_t n, size_t at);
+moult_writing second_journal_write_entry(uint64_t ticks, uint64_t source, const uint8_t *payload,
+                                         size_t payload_n, uint8_t *out, size_t out_n);
 
 #endif

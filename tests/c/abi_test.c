@@ -23,6 +23,11 @@ STATIC_CHECK(sizeof(moult_part) == 3 * sizeof(size_t));
 STATIC_CHECK(sizeof(moult_settings) == 8);
 STATIC_CHECK(offsetof(moult_settings_reading, settings) == 2 * sizeof(size_t));
 STATIC_CHECK(sizeof(moult_settings_reading) == 3 * sizeof(size_t));
+STATIC_CHECK(sizeof(moult_entry) == 6 * sizeof(size_t));
+STATIC_CHECK(offsetof(moult_entry, entries) == 4);
+STATIC_CHECK(offsetof(moult_entry, place) == sizeof(size_t));
+STATIC_CHECK(offsetof(moult_entry, ticks) == 2 * sizeof(size_t));
+STATIC_CHECK(offsetof(moult_entry, next) == 5 * sizeof(size_t));
 STATIC_CHECK(MOULT_MAX_NUMBERS == 2 * MOULT_MAX_FRAMES);
 
 #define GUARD 0xA5
@@ -147,6 +152,10 @@ static void nothing_lent(void)
     CHECK(w.number == 14 && w.place == 7 && w.octets == 0);
     w = moult_pack(1, NULL, 0, NULL, 0);
     CHECK(w.number == 14 && w.place == 11 && w.octets == 0);
+    moult_entry e = moult_journal_entry_at(NULL, 0, 0);
+    CHECK(e.number == 0 && e.place == 0 && e.entries == 0 && e.next == 0);
+    w = moult_journal_write_entry(0, 0, NULL, 0, NULL, 0);
+    CHECK(w.number == 10 && w.place == 3 && w.octets == 0);
 }
 
 static void room(void)
@@ -173,8 +182,8 @@ static void body_octets(void)
 /* Each number has a text of its own; one that is not known has one too. */
 static void texts(void)
 {
-    const char *other = moult_refusal_text(MOULT_FIELD_TOO_LARGE + 1);
-    for (uint32_t number = 0; number <= MOULT_FIELD_TOO_LARGE; number++) {
+    const char *other = moult_refusal_text(MOULT_ENTRY_CUT + 1);
+    for (uint32_t number = 0; number <= MOULT_ENTRY_CUT; number++) {
         CHECK(strlen(moult_refusal_text(number)) > 0);
         CHECK(strcmp(moult_refusal_text(number), other) != 0);
         for (uint32_t earlier = 0; earlier < number; earlier++)
@@ -277,6 +286,38 @@ static void fields(void)
     CHECK(w.number == 10 && w.place == 7);
 }
 
+/* The longest entry, and behind it one that is cut short. */
+static void journal(void)
+{
+    static uint8_t payload[MOULT_MAX_OCTETS + 1], out[MOULT_MAX_ENTRY + 4];
+    memset(out, GUARD, sizeof out);
+    moult_writing w = moult_journal_write_entry(UINT32_MAX, UINT32_MAX, payload, MOULT_MAX_OCTETS,
+                                                out, MOULT_MAX_ENTRY - 1);
+    CHECK(w.number == 10 && w.place == MOULT_MAX_ENTRY && w.octets == 0 && out[0] == GUARD);
+    w = moult_journal_write_entry(UINT32_MAX, UINT32_MAX, payload, MOULT_MAX_OCTETS, out,
+                                  MOULT_MAX_ENTRY);
+    CHECK(w.number == 0 && w.place == 0 && w.octets == MOULT_MAX_ENTRY);
+    CHECK(memcmp(out, "\xFF\xFF\xFF\xFF\x0F\xFF\xFF\xFF\xFF\x0F\xF8\x0A", 12) == 0);
+    CHECK(memcmp(out + 12, payload, MOULT_MAX_OCTETS) == 0 && out[MOULT_MAX_ENTRY] == GUARD);
+    moult_entry e = moult_journal_entry_at(out, sizeof out, 0);
+    CHECK(e.number == 0 && e.place == 0 && e.entries == 1);
+    CHECK(e.ticks == UINT32_MAX && e.source == UINT32_MAX);
+    CHECK(e.start == 12 && e.next == MOULT_MAX_ENTRY);
+    e = moult_journal_entry_at(out, sizeof out, e.next);
+    CHECK(e.number == MOULT_ENTRY_CUT && e.place == MOULT_MAX_ENTRY && e.entries == 0);
+    CHECK(e.ticks == 0 && e.source == 0 && e.start == 0 && e.next == 0);
+    e = moult_journal_entry_at(out, sizeof out, sizeof out);
+    CHECK(e.number == 0 && e.place == 0 && e.entries == 0 && e.next == 0);
+    e = moult_journal_entry_at((const uint8_t *)"\x80", 2, 0);
+    CHECK(e.number == MOULT_BAD_NUMBER && e.place == 0 && e.entries == 0);
+    w = moult_journal_write_entry((uint64_t)UINT32_MAX + 1, 0, payload, 1, out, sizeof out);
+    CHECK(w.number == 18 && w.place == 0 && w.octets == 0);
+    w = moult_journal_write_entry(0, UINT64_MAX, payload, 1, out, sizeof out);
+    CHECK(w.number == 18 && w.place == 0 && w.octets == 0);
+    w = moult_journal_write_entry(0, 0, payload, MOULT_MAX_OCTETS + 1, out, sizeof out);
+    CHECK(w.number == 1 && w.place == 1400 && w.octets == 0 && out[0] == 0xFF);
+}
+
 int main(void)
 {
     CHECK(moult_version() == MOULT_VERSION);
@@ -289,6 +330,7 @@ int main(void)
     writer();
     settings();
     fields();
+    journal();
     printf("%lu checks held\n", checks);
     return 0;
 }

@@ -224,3 +224,51 @@ void compare_pack(uint8_t mode, const uint16_t *data, size_t fields_n, int more)
     compare_writing(moult_pack(mode, fields, fields_n, octets + GUARD, out_n),
                     second_pack(mode, fields, fields_n, wanted_octets + GUARD, out_n));
 }
+
+static int same_entry(moult_entry a, moult_entry b)
+{
+    return a.number == b.number && a.entries == b.entries && a.place == b.place &&
+           a.ticks == b.ticks && a.source == b.source && a.start == b.start && a.next == b.next;
+}
+
+/* An entry that was read, written: its octets again. */
+static moult_entry compare_entry(const uint8_t *journal, size_t n, size_t at)
+{
+    static uint8_t back[MOULT_MAX_ENTRY];
+    moult_entry e = moult_journal_entry_at(journal, n, at);
+    MUST(same_entry(e, second_journal_entry_at(journal, n, at)));
+    if (e.entries) {
+        moult_writing w = moult_journal_write_entry(e.ticks, e.source, journal + e.start,
+                                                    e.next - e.start, back, e.next - at);
+        MUST(w.number == 0 && w.octets == e.next - at);
+        MUST(memcmp(back, journal + at, w.octets) == 0);
+    }
+    return e;
+}
+
+void compare_journal(const uint8_t *data, size_t n, size_t at)
+{
+    const uint8_t *journal = lend_input(&first_lent, data, n);
+    compare_entry(journal, n, at);
+    moult_entry e = compare_entry(journal, n, 0);
+    while (e.entries)
+        e = compare_entry(journal, n, e.next);
+    MUST(unchanged(&first_lent));
+}
+
+void compare_entry_write(uint64_t ticks, uint64_t source, const uint8_t *data, size_t n, int more)
+{
+    uint8_t entry[MOULT_MAX_ENTRY];
+    const uint8_t *payload = lend_input(&first_lent, data, n);
+    size_t needed = second_journal_write_entry(ticks, source, payload, n, entry, sizeof entry)
+                        .octets;
+    size_t out_n = room(needed, more);
+    lend();
+    moult_writing got = moult_journal_write_entry(ticks, source, payload, n, octets + GUARD, out_n);
+    compare_writing(got, second_journal_write_entry(ticks, source, payload, n,
+                                                    wanted_octets + GUARD, out_n));
+    if (got.number == 0) {
+        moult_entry read = {0, 1, 0, ticks, source, needed - n, needed};
+        MUST(same_entry(moult_journal_entry_at(octets + GUARD, needed, 0), read));
+    }
+}

@@ -21,5 +21,9 @@ void compare_settings_read(const uint8_t *text, size_t n);
 void compare_settings_write(moult_settings settings, int more);
 void compare_unpack(uint8_t mode, const uint8_t *body, size_t body_n, int more);
 void compare_pack(uint8_t mode, const uint16_t *fields, size_t fields_n, int more);
+/* What stands at index `at`, and every entry from the start on. */
+void compare_journal(const uint8_t *journal, size_t n, size_t at);
+void compare_entry_write(uint64_t ticks, uint64_t source, const uint8_t *payload, size_t n,
+                         int more);
 
 #endif

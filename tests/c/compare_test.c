@@ -1,5 +1,6 @@
 /* The library against the second C implementation over many inputs, the same in each run: legal
-   payloads, damaged and clipped ones, random octets, row lists, setting texts, fields and times. */
+   payloads, damaged and clipped ones, random octets, row lists, setting texts, fields, times and
+   journals. */
 #include "compare.h"
 
 #include <stdio.h>
@@ -386,6 +387,66 @@ static void try_fields(void)
     }
 }
 
+/* ---- journals */
+
+/* A number with any count of groups, or about 2^32; at times one that is too large. */
+static uint64_t random_groups(void)
+{
+    if (one_in(8))
+        return UINT32_MAX - 1 + (uint64_t)below(3);
+    if (one_in(40))
+        return random_64();
+    uint64_t border = (uint64_t)1 << 7 * below(5);
+    return one_in(2) ? border - below(2) : (uint64_t)below((size_t)border * 16);
+}
+
+/* An octet at a border of what a group may be. */
+static uint8_t random_group(void)
+{
+    static const uint8_t borders[] = {0,   1,   9,   10,  11,  15,  16,  127,
+                                      128, 129, 143, 144, 247, 248, 249, 255};
+    return borders[below(sizeof borders)];
+}
+
+/* Entries whose payloads are mostly short, one after another; damaged or clipped at times. */
+static void try_journals(void)
+{
+    static uint8_t journal[COMPARE_OCTETS], payload[MOULT_MAX_OCTETS + 2];
+    for (int i = 0; i < 40000; i++) {
+        size_t n = 0;
+        for (size_t entries = below(4); entries > 0; entries--) {
+            size_t length = one_in(20) ? 1402 - below(20) : below(one_in(4) ? 140 : 9);
+            uint64_t ticks = random_groups(), source = random_groups();
+            memset(payload, random_octet(), length);
+            compare_in_front((int)below(2));
+            compare_entry_write(ticks, source, payload, length, random_more());
+            compared++;
+            n += second_journal_write_entry(ticks, source, payload, length, journal + n,
+                                            sizeof journal - n)
+                     .octets;
+        }
+        if (n > 0 && one_in(2))
+            journal[below(one_in(2) ? n : n < 12 ? n : 12)] = random_group();
+        compare_in_front((int)below(2));
+        compare_journal(journal, one_in(2) ? n : below(n + 1), below(n + 2));
+        compared++;
+    }
+}
+
+/* Numbers and lengths of any groups, good and bad, and what stands behind them. */
+static void try_groups(void)
+{
+    uint8_t journal[24];
+    for (int i = 0; i < 100000; i++) {
+        size_t n = below(sizeof journal + 1);
+        for (size_t at = 0; at < n; at++)
+            journal[at] = one_in(3) ? (uint8_t)random_64() : random_group();
+        compare_in_front((int)below(2));
+        compare_journal(journal, n, one_in(10) ? (size_t)random_64() : below(n + 2));
+        compared++;
+    }
+}
+
 int main(void)
 {
     try_sequences();
@@ -397,6 +458,8 @@ int main(void)
     try_settings();
     try_bodies();
     try_fields();
+    try_journals();
+    try_groups();
     printf("%lu inputs: the library and the second C implementation answer alike\n", compared);
     return 0;
 }

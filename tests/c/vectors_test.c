@@ -235,6 +235,25 @@ static void run_pack(void)
     expect_writing(w, octets_of("body", want_octets));
 }
 
+static void run_entry(void)
+{
+    size_t n = octets_of("journal", given);
+    moult_entry e = CALL(journal_entry_at)(given, n, number_of("at"));
+    EXPECT(e.number == number_of("number") && e.place == number_of("place"));
+    EXPECT(e.entries == number_of("entries"));
+    EXPECT(e.ticks == number_of("ticks") && e.source == number_of("source"));
+    EXPECT(e.start == number_of("start") && e.next == number_of("next"));
+}
+
+static void run_entry_write(void)
+{
+    size_t n = octets_of("payload", given);
+    lend();
+    moult_writing w = CALL(journal_write_entry)(number_of("ticks"), number_of("source"), given, n,
+                                                lent_octets, number_of("octets"));
+    expect_writing(w, octets_of("entry", want_octets));
+}
+
 static void run_line(void)
 {
     static const struct {
@@ -249,6 +268,8 @@ static void run_line(void)
         {"settings_write", run_settings_write},
         {"unpack", run_unpack},
         {"pack", run_pack},
+        {"entry", run_entry},
+        {"entry_write", run_entry_write},
     };
     char name[20];
     EXPECT(sscanf(line, "{\"case\": \"%19[a-z_]\"", name) == 1);

@@ -8,23 +8,16 @@ use native.Mathlib.Nat.{pow-suc, one-le-pow, zero-mul, add-mul, mul-assoc, mul-r
 use native.Mathlib.Numerals.{add-one}
 use native.Mathlib.Omega.{arith}
 use lib.ListN.{getD}
-use borrow.Author.Tests.{lt-ltb, le-ltb}
 use Rattle.leb128.specs.Number.{groupsOf, Within, Partial, lastGroup, moreGroups, stepOf, Head, number, none, headFrom, headOf}
 use Rattle.leb128.specs.declared.Group.{Group}
 use Rattle.leb128.specs.declared.Group.the-variants.{More, Last, Bad}
-use Rattle.leb128.proofs.Steps.{below-or, held-more, last-zero, last-nought, last-over, last-right, more-right, more-many}
+use Rattle.octets.proofs.Order.{below-or}
+use Rattle.leb128.proofs.Steps.{held-more, last-zero, last-nought, last-over, last-right, more-right, more-many}
 use Rattle.leb128.proofs.Steps.{step-full, step-last, step-more}
-
--- ---- a number's octets
-
-groups-one : (j n : ℕ) → n < 128 → groupsOf (suc j) n ≡ n ∷ []
-groups-one j n h = simp (lt-ltb n 128 h)
-
-groups-more : (j n : ℕ) → 128 ≤ n → groupsOf (suc j) n ≡ (128 + n % 128) ∷ groupsOf j (n / 128)
-groups-more j n h = simp (le-ltb n 128 h)
+use Rattle.leb128.proofs.Groups.{groups-one, groups-more}
 
 -- a value of groups, its lowest one apart
-regroup : (v a b w : ℕ) → v + a * w + b * (w * 128) ≡ v + (a + b * 128) * w
+pub regroup : (v a b w : ℕ) → v + a * w + b * (w * 128) ≡ v + (a + b * 128) * w
 regroup v a b w = rw (add-mul a (b * 128) w, mul-right-comm b 128 w, mul-assoc b w 128) (omega arith)
 
 module _ (most bound : ℕ) (top : most ≤ 9) where

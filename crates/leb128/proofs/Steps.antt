@@ -1,25 +1,17 @@
 -- Laws of one step: what each case comes to, and that its numbers fit.
-use mathlib.Core.Path.{_≡_, refl, subst, ap}
+use mathlib.Core.Path.{_≡_, refl, subst, _∙_, ap}
 use mathlib.Core.Logic.{_⊎_, inl, inr}
 use mathlib.Core.Bool.{Bool, true, false, cond, _&&_}
 use Prim.Native.Nat.{ℕ, _+_, _-_, _*_, _^_, _≤_, _<_}
 use native.Mathlib.Nat.{pow-suc, pow-le-pow-right, mul-le-mul-right}
-use native.Mathlib.Decide.{decLe}
 use native.Mathlib.Numerals.{add-one}
 use native.Mathlib.Omega.{arith}
 use lib.Dec.{ltb, eqb}
 use borrow.Author.Tests.{lt-ltb, le-ltb, eq-eqb, ne-eqb, ltb-false}
+use Rattle.octets.proofs.Order.{below-or}
 use Rattle.leb128.specs.Number.{Partial, lastGroup, moreGroups, stepOf, groupValues, Steps}
 use Rattle.leb128.specs.declared.Group.{Group}
 use Rattle.leb128.specs.declared.Group.the-variants.{More, Last, Bad}
-
--- one of two orders
-pub below-or : (a b : ℕ) → (a < b) ⊎ (b ≤ a)
-below-or a b = go (decLe b a)
-  where
-    go : Dec (b ≤ a) → (a < b) ⊎ (b ≤ a)
-    go (yes h) = inr h
-    go (no h) = inl (omega arith)
 
 -- ---- ranges
 
@@ -140,6 +132,16 @@ last-most most bound v k x n e = subst (Ranged bound k) e (step-ranged most boun
 
 pub more-few : (most bound v k x w : ℕ) → stepOf most bound v k x ≡ More w → k < 9
 more-few most bound v k x w e = subst (Ranged bound k) e (step-ranged most bound v k x)
+
+-- a last group is not one that others follow
+pub last-not-more : (most bound v k x w : ℕ) → Partial v k → k < most → x < 128 → stepOf most bound v k x ≡ More w → ⊥
+unfolding lastGroup
+last-not-more most bound v k x w p f h e = go (eqb x 0 && ltb 0 k) (ltb bound (v + x * 128 ^ k)) (step-last most bound v k x p f h ∙ e)
+  where
+    go : (t u : Bool) → cond t Bad (cond u Bad (Last (v + x * 128 ^ k))) ≡ More w → ⊥
+    go true u d = let z : _≡_ {A = ℕ} 0 1 = cc in omega arith
+    go false true d = let z : _≡_ {A = ℕ} 0 1 = cc in omega arith
+    go false false d = let z : _≡_ {A = ℕ} 0 1 = cc in omega arith
 
 -- the promise of a step, from its answer
 pub steps : (most bound v k x : ℕ) {r : Group} → r ≡ stepOf most bound v k x → Steps most bound v k x r

@@ -1,4 +1,4 @@
--- Numbers in groups of seven bits (docs/FORMAT.md, "Listing"): a number's octets said forwards, and one step of reading them.
+-- Numbers in groups of seven bits (document 01, "The listing"): a number's octets said forwards, and one step of reading them.
 use mathlib.Core.Path.{_≡_}
 use mathlib.Core.Bool.{cond, _&&_}
 use mathlib.Core.List.{List, [], _∷_}
@@ -9,6 +9,8 @@ use Rattle.leb128.specs.declared.Group.{Group}
 use Rattle.leb128.specs.declared.Group.the-variants.{More, Last, Bad}
 use Rattle.leb128.specs.declared.Found.{Found}
 use Rattle.leb128.specs.declared.Found.the-variants as found
+use Rattle.leb128.specs.declared.Part.{Part}
+use Rattle.leb128.specs.declared.Part.the-variants as part
 
 -- "in groups of seven bits, low group first, 128 meaning 'more', shortest form": the octets of n, for which k groups are enough
 abbrev pub groupsOf : ℕ → ℕ → List ℕ
@@ -65,6 +67,16 @@ foundOf n none = found.Bad
 -- what stands at the index i of the octets xs
 abbrev pub foundAt : ℕ → ℕ → List ℕ → ℕ → Found
 foundAt most bound xs i = foundOf (length xs) (headOf most bound (drop i xs))
+
+-- the same with the groups so far, where more octets may follow
+abbrev pub partOf : ℕ → Head → Part
+partOf n (number m rest) = part.Number m (n - length rest)
+partOf n (short v k) = part.More v k
+partOf n none = part.Bad
+
+-- what the octets xs from the index i on make of k groups of the value v
+abbrev pub partAt : ℕ → ℕ → ℕ → ℕ → List ℕ → ℕ → Part
+partAt most bound v k xs i = partOf (length xs) (headFrom most bound v k (drop i xs))
 
 -- ---- what is promised
 

@@ -1,7 +1,10 @@
 // Numbers in groups of seven bits, low group first, 128 meaning "more", shortest form (unsigned LEB128): one octet a step.
 ghost use mathlib.Core.Path.{_≡_};
-ghost use Prim.Native.Nat.{_^_, _≤_, _<_};
-ghost use Rattle.leb128.specs.Number.{Partial, moreGroups, lastGroup, Steps, Finds};
+ghost use Prim.Native.Nat.{_+_, _^_, _≤_, _<_};
+ghost use lib.ListN.{length};
+ghost use Rattle.octets.specs.Put.{put};
+ghost use Rattle.leb128.specs.Number.{Partial, moreGroups, lastGroup, Steps, Finds, partAt};
+ghost use Rattle.leb128.specs.Writing.{octetsOf, withNumber, numberEnd};
 
 // What an octet makes of the groups before it: a value so far, which more groups follow; the number; no number.
 pub enum Group {
@@ -82,6 +85,45 @@ pub fn step(value: u64, groups: u8, octet: u8, most: u8, bound: u64) -> Group
     more_groups(value, groups, octet, most)
 }
 
+// What the octets from an index on make of the groups before them: a number, with the index behind it; more groups, which
+// others are to follow; no number.
+enum Part {
+    Number(u64, usize),
+    More(u64, u8),
+    Bad,
+}
+
+// Reads a number on from so many groups, which came to the value: at most `most` groups, and nine; at most `bound`.
+fn number_from(
+    mut value: u64,
+    mut groups: u8,
+    octets: &[u8],
+    at: usize,
+    most: u8,
+    bound: u64,
+) -> Part
+    ensures { λ r. ⌜ r ≡ partAt most bound value groups (now (octets .entry)) at ⌝ }
+{
+    let mut i = at;
+    while i < octets.len() {
+        let group = step(value, groups, octets[i], most, bound);
+        match group {
+            Group::Bad => {
+                return Part::Bad;
+            }
+            Group::Last(number) => {
+                return Part::Number(number, i + 1);
+            }
+            Group::More(more) => {
+                value = more;
+                groups += 1;
+                i += 1;
+            }
+        }
+    }
+    Part::More(value, groups)
+}
+
 // What stands at an index of some octets: a number, with the index behind it; too few octets; no number.
 pub enum Found {
     Number(u64, usize),
@@ -93,24 +135,53 @@ pub enum Found {
 pub fn number_at(octets: &[u8], at: usize, most: u8, bound: u64) -> Found
     ensures { λ r. ⌜ Finds most bound (now (octets .entry)) at r ⌝ }
 {
-    let mut value: u64 = 0;
-    let mut groups: u8 = 0;
-    let mut i = at;
-    while i < octets.len() {
-        let group = step(value, groups, octets[i], most, bound);
-        match group {
-            Group::Bad => {
-                return Found::Bad;
-            }
-            Group::Last(number) => {
-                return Found::Number(number, i + 1);
-            }
-            Group::More(more) => {
-                value = more;
-                groups += 1;
-                i += 1;
-            }
-        }
+    let part = number_from(0, 0, octets, at, most, bound);
+    match part {
+        Part::Number(number, next) => Found::Number(number, next),
+        Part::More(_, _) => Found::Short,
+        Part::Bad => Found::Bad,
     }
-    Found::Short
+}
+
+// How many octets a number has.
+pub fn size_of(n: u64) -> usize
+    ensures { λ r. ⌜ r ≡ length (octetsOf n) ⌝ }
+{
+    let mut rest = n;
+    let mut size: usize = 1;
+    while 128 <= rest {
+        rest = rest / 128;
+        size += 1;
+    }
+    size
+}
+
+// Puts a number's octets at an index, where there is room for them, and answers the index behind them.
+fn put_groups(n: u64, out: &mut [u8], at: usize) -> usize
+    requires { ⌜ at + length (octetsOf n) ≤ length (now out) ⌝ }
+    ensures { λ r. ⌜ (now (out .exit) ≡ put (now (out .entry)) at (octetsOf n)) × (r ≡ at + length (octetsOf n)) ⌝ }
+{
+    let mut rest = n;
+    let mut i = at;
+    while 128 <= rest {
+        out[i] = 128 + (rest % 128) as u8;
+        rest = rest / 128;
+        i += 1;
+    }
+    out[i] = rest as u8;
+    i + 1
+}
+
+// Puts a number's octets at an index and answers the index behind them. Where there is no room, the octets stay as they are and
+// the answer is the index itself: a number has at least one octet.
+pub fn put_number(n: u64, out: &mut [u8], at: usize) -> usize
+    ensures { λ r. ⌜ (now (out .exit) ≡ withNumber (now (out .entry)) at n) × (r ≡ numberEnd (now (out .entry)) at n) ⌝ }
+{
+    if out.len() < at {
+        return at;
+    }
+    if out.len() - at < size_of(n) {
+        return at;
+    }
+    put_groups(n, out, at)
 }

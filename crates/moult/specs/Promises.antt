@@ -25,13 +25,20 @@ use Rattle.fmtp.specs.declared.Written.{Written}
 use Rattle.fields.specs.Answers.{unpackedReport, packedReport, Unpacks, Packs}
 use Rattle.fields.specs.declared.Unpacked.{Unpacked}
 use Rattle.fields.specs.declared.Packed.{Packed}
-use Rattle.moult.specs.Structs.{readingOf, writingOf, ticksOf, millisOf, parsedOf, lent, partOf}
+use Rattle.journal.specs.Entry.{Entry}
+use Rattle.journal.specs.Answers.{standingReport, Stands}
+use Rattle.journal.specs.Answers.{Writes as WritesEntry}
+use Rattle.journal.specs.Answers as journal
+use Rattle.journal.specs.declared.Standing.{Standing}
+use Rattle.journal.specs.declared.Written.{Written as EntryWritten}
+use Rattle.moult.specs.Structs.{entryOf, readingOf, writingOf, ticksOf, millisOf, parsedOf, lent, partOf}
 use Rattle.moult.specs.declared.MoultReading.{MoultReading}
 use Rattle.moult.specs.declared.MoultWriting.{MoultWriting}
 use Rattle.moult.specs.declared.MoultTicks.{MoultTicks}
 use Rattle.moult.specs.declared.MoultMillis.{MoultMillis}
 use Rattle.moult.specs.declared.MoultPart.{MoultPart}
 use Rattle.moult.specs.declared.MoultParsed.{MoultParsed}
+use Rattle.moult.specs.declared.MoultEntry.{MoultEntry}
 
 -- the struct x is that of an answer of which a promise holds
 pub record Returned {A X : Type 0} (Promise : A → Type 0) (structOf : A → X) (x : X) : Type 0 where
@@ -94,3 +101,11 @@ HostUnpacks mode body before x after = Returned (λ (a : Unpacked). Unpacks mode
 -- what `moult_pack` promises
 abbrev pub HostPacks : ℕ → List ℕ → List ℕ → MoultWriting → List ℕ → Type 0
 HostPacks mode fields before x after = Returned (λ (a : Packed). Packs mode fields before after a) (λ (a : Packed). writingOf (packedReport a)) x
+
+-- what `moult_journal_entry_at` promises of a journal xs and an index
+abbrev pub HostEntry : List ℕ → ℕ → MoultEntry → Type 0
+HostEntry xs i x = Returned (λ (a : Standing). Stands xs i a) (λ (a : Standing). entryOf (standingReport a)) x
+
+-- what `moult_journal_write_entry` promises of an entry
+abbrev pub HostWritesEntry : Entry → List ℕ → MoultWriting → List ℕ → Type 0
+HostWritesEntry e before x after = Returned (λ (a : EntryWritten). WritesEntry e before after a) (λ (a : EntryWritten). writingOf (journal.writtenReport a)) x

@@ -18,7 +18,9 @@ use Rattle.moult.specs.declared.MoultWriting.{MoultWriting}
 use Rattle.moult.specs.declared.MoultTicks.{MoultTicks}
 use Rattle.moult.specs.declared.MoultMillis.{MoultMillis}
 use Rattle.moult.specs.declared.MoultPart.{MoultPart}
+use Rattle.journal.specs.Answers.{Located}
 use Rattle.moult.specs.declared.MoultParsed.{MoultParsed}
+use Rattle.moult.specs.declared.MoultEntry.{MoultEntry}
 
 -- 0.1.0: 10,000 times the first number, 100 times the second, and the third
 abbrev pub version : ℕ
@@ -58,6 +60,18 @@ parsedOf a = record {
   number = a .number;
   place = a .place;
   settings = record { first = a .value .first; second = a .value .second; third = a .value .third; tcmax = a .value .tcmax };
+}
+
+-- what stands at an index of a journal
+abbrev pub entryOf : Report Located → MoultEntry
+entryOf a = record {
+  number = a .number;
+  entries = a .value .entries;
+  place = a .place;
+  ticks = a .value .ticks;
+  source = a .value .source;
+  start = a .value .start;
+  next = a .value .next;
 }
 
 -- a whole lent list, of the block b: 0 is the payload, 1 the stand-in

@@ -3,14 +3,16 @@ ghost use mathlib.Core.Path.{_≡_};
 ghost use mathlib.Core.Option.{some};
 ghost use Rattle.wire.specs.Frame.{kindOf};
 ghost use Rattle.refusal.specs.Report.{accepted, refusedWith};
-ghost use Rattle.moult.specs.Structs.{writingOf, bodyOctetsOf, version};
-ghost use Rattle.moult.specs.Promises.{Counted, HostReads, HostWrites, HostTimes, HostPtime, HostAugments, HostShows, HostParses, HostWritesSettings, HostUnpacks, HostPacks};
+ghost use Rattle.journal.specs.Answers.{nothing};
+ghost use Rattle.moult.specs.Structs.{writingOf, entryOf, bodyOctetsOf, version};
+ghost use Rattle.moult.specs.Promises.{Counted, HostReads, HostWrites, HostTimes, HostPtime, HostAugments, HostShows, HostParses, HostWritesSettings, HostUnpacks, HostPacks, HostEntry, HostWritesEntry};
 use clock::PacketMillis;
 use clock::PacketTicks;
 use fields::Packed;
 use fields::Unpacked;
 use fmtp::Parsed;
 use fmtp::Written;
+use journal::Standing;
 use reader::Reading;
 use refusal::Refusal;
 use views::Location;
@@ -81,6 +83,19 @@ pub struct MoultParsed {
     pub number: u32,
     pub place: usize,
     pub settings: MoultSettings,
+}
+
+// What stands at an index of a journal: number and place; how many entries, 1 or 0; of this entry its ticks and source, where its payload
+// starts, and where the next entry begins.
+#[repr(C)]
+pub struct MoultEntry {
+    pub number: u32,
+    pub entries: u32,
+    pub place: usize,
+    pub ticks: u64,
+    pub source: u64,
+    pub start: usize,
+    pub next: usize,
 }
 
 // The library's version.
@@ -350,5 +365,63 @@ pub extern "C" fn moult_pack(mode: u8, fields: &[u16], out: &mut [u8]) -> MoultW
     match answer {
         Packed::Octets(octets) => written(octets),
         Packed::Refused(refusal) => not_written(refusal),
+    }
+}
+
+// No entry: the journal's end where number and place are 0, else a refusal.
+fn no_entry(number: u8, place: usize) -> MoultEntry
+    ensures { λ r. ⌜ r ≡ entryOf (nothing number place) ⌝ }
+{
+    MoultEntry {
+        number: number as u32,
+        entries: 0,
+        place,
+        ticks: 0,
+        source: 0,
+        start: 0,
+        next: 0,
+    }
+}
+
+// The entry that begins at an index of a journal.
+#[no_mangle]
+pub extern "C" fn moult_journal_entry_at(octets: &[u8], at: usize) -> MoultEntry
+    ensures { λ r. ⌜ HostEntry (now (octets .entry)) at r ⌝ }
+{
+    let answer = journal::entry_at(octets, at);
+    match answer {
+        Standing::Entry {
+            ticks,
+            source,
+            start,
+            next,
+        } => MoultEntry {
+            number: 0,
+            entries: 1,
+            place: 0,
+            ticks,
+            source,
+            start,
+            next,
+        },
+        Standing::End => no_entry(0, 0),
+        Standing::Refused(refusal) => no_entry(refusal.number, refusal.place),
+    }
+}
+
+// Writes an entry of a journal.
+#[no_mangle]
+pub extern "C" fn moult_journal_write_entry(
+    ticks: u64,
+    source: u64,
+    payload: &[u8],
+    out: &mut [u8],
+) -> MoultWriting
+    ensures { λ r. ⌜ HostWritesEntry (record { ticks = ticks; source = source; payload = now (payload .entry) }) (now (out .entry)) r (now (out .exit)) ⌝ }
+{
+    let answer = journal::write_entry(ticks, source, payload, out);
+    match answer {
+        journal::Written::Octets(octets) => written(octets),
+        journal::Written::Refused(refusal) => not_written(refusal),
     }
 }

@@ -7,12 +7,17 @@ use Rattle.views.proofs.Shown.{all-shown}
 use Rattle.fmtp.proofs.Theorems as settings
 use Rattle.fields.proofs.RoundTrip.{round-trip, unpacked-fit, widths-round-trip}
 use Rattle.fields.proofs.Theorems.{unpacked-packed, packed-unpacked, examples}
+use native.Mathlib.Omega.{arith}
 use Rattle.leb128.proofs.Exact as numbers
+use Rattle.leb128.proofs.Possible.{Roomy, none-impossible, impossible-none, short-begun, begun-short}
+use Rattle.journal.specs.Replay.{whole}
+use Rattle.journal.proofs.Journals.{replay-sound, whole-journal, refused-journal, reads-written, one-reading, one-list, some-reading}
+use Rattle.journal.proofs.Writing.{legal-written, written-legal}
 use Rattle.listing.proofs.LineByLine.{says, only}
 use Rattle.listing.proofs.LineNumbers.{lines-most}
 use Rattle.listing.proofs.Joined.{joined}
 use Rattle.listing.proofs.Sample.{sample}
-use Rattle.theorems.specs.Theorems.{WalkIsExact, ReadingUndoesWriting, BenchPayloads, PtimesDecided, ViewsJoin, SettingsAreExact, FieldsReturn, NumbersAreExact, ListingIsExact}
+use Rattle.theorems.specs.Theorems.{WalkIsExact, ReadingUndoesWriting, BenchPayloads, PtimesDecided, ViewsJoin, SettingsAreExact, FieldsReturn, NumbersAreExact, ListingIsExact, BadNumbersAreExact, JournalsAreExact}
 use Rattle.theorems.proofs.RoundTrips.{read-written, written-read}
 
 pub walk-is-exact : WalkIsExact
@@ -55,3 +60,26 @@ numbers-are-exact = record { sound = numbers.sound; complete = numbers.complete;
 
 pub listing-is-exact : ListingIsExact
 listing-is-exact = record { says = says; only = only; joined = joined; lines = lines-most; sample = sample }
+
+roomy : Roomy 5 4294967295
+roomy = record { some = omega arith; few = omega arith; room = omega arith }
+
+pub bad-numbers-are-exact : BadNumbersAreExact
+bad-numbers-are-exact = record {
+  bad = none-impossible 5 4294967295 roomy;
+  impossible = impossible-none 5 4294967295 roomy;
+  cut = short-begun 5 4294967295 roomy;
+  begun = λ xs b. let s = begun-short 5 4294967295 roomy xs b in (s .value, s .groups, s .head);
+}
+
+pub journals-are-exact : JournalsAreExact
+journals-are-exact = record {
+  read = reads-written;
+  ends = λ xs o. let r = some-reading xs o in (r .entries, r .ending, r .replay);
+  once = λ xs es fs o q r s. one-reading xs r s;
+  whole = λ xs o es r. let h = replay-sound xs o es whole r in (h .legal, whole-journal xs o es h);
+  unique = one-list;
+  refused = λ xs o es k p some r. let h = replay-sound xs o es (record { number = k; place = p }) r in (h .legal, refused-journal xs o es k p some h);
+  written = legal-written;
+  accepted = written-legal;
+}

@@ -33,7 +33,12 @@ use Rattle.fields.specs.Examples.{Examples}
 use Rattle.fields.specs.Answers.{unpackedReport, packedReport, Unpacks, Packs}
 use Rattle.fields.specs.declared.Unpacked.{Unpacked}
 use Rattle.fields.specs.declared.Packed.{Packed}
-use Rattle.leb128.specs.Number.{groupsOf, Within, number, headOf}
+use Rattle.leb128.specs.Number.{groupsOf, Within, number, short, none, headOf}
+use Rattle.leb128.specs.Possible.{Possible, Begun}
+use Rattle.journal.specs.Entry.{Entry, mostGroups, topNumber, entryOctets, journalOctets, AllLegal}
+use Rattle.journal.specs.Entry as journal
+use Rattle.journal.specs.Answers.{writing}
+use Rattle.journal.specs.Replay.{Ending, whole, Replay, RefusedAt}
 use Rattle.listing.specs.Listing.{Lists, Stage, run, fresh, listing}
 use Rattle.listing.specs.Answers.{Calls}
 use Rattle.listing.specs.Sample.{input, output}
@@ -116,3 +121,29 @@ pub record ListingIsExact : Type 0 where
   -- a line's number never passes the octets taken, so no input that there is reaches the largest
   pub lines : (room : Option ℕ) (t : Stage) (xs : List ℕ) → run room t xs .lines ≤ t .lines + length xs
   pub sample : listing input ≡ output
+
+-- "18 bad number (from the first octet that leaves no good one possible)": of some octets, a number of at most five groups below 2^32 is bad exactly if
+-- no further octets make one, and cut short exactly if some do
+pub record BadNumbersAreExact : Type 0 where
+  pub bad : (xs : List ℕ) → headOf mostGroups topNumber xs ≡ none → Possible mostGroups topNumber xs → ⊥
+  pub impossible : (xs : List ℕ) → Octets xs → (Possible mostGroups topNumber xs → ⊥) → headOf mostGroups topNumber xs ≡ none
+  pub cut : (xs : List ℕ) → Octets xs → (v k : ℕ) → headOf mostGroups topNumber xs ≡ short v k → Begun mostGroups topNumber xs
+  pub begun : (xs : List ℕ) → Begun mostGroups topNumber xs → (v : ℕ) × (k : ℕ) × (headOf mostGroups topNumber xs ≡ short v k)
+
+-- whole journals, read entry by entry from 0
+pub record JournalsAreExact : Type 0 where
+  -- the octets of legal entries are read as these, to the end
+  pub read : (es : List Entry) → Octets (journalOctets es) → AllLegal es → Replay (journalOctets es) 0 es whole
+  -- any octets are read to some end, and to one alone
+  pub ends : (xs : List ℕ) → Octets xs → (es : List Entry) × (o : Ending) × Replay xs 0 es o
+  pub once : (xs : List ℕ) (es fs : List Entry) (o q : Ending) → Replay xs 0 es o → Replay xs 0 fs q → (es ≡ fs) × (o ≡ q)
+  -- the end is reached only by octets of legal entries, and these are read
+  pub whole : (xs : List ℕ) → Octets xs → (es : List Entry) → Replay xs 0 es whole → AllLegal es × (xs ≡ journalOctets es)
+  -- "one journal text for one list of entries", and one list for one text
+  pub unique : (es fs : List Entry) → Octets (journalOctets es) → AllLegal es → AllLegal fs → journalOctets es ≡ journalOctets fs → es ≡ fs
+  -- a refusal: "entries handed out before a refusal stand"
+  pub refused : (xs : List ℕ) → Octets xs → (es : List Entry) (k p : ℕ) → 1 ≤ k → Replay xs 0 es (record { number = k; place = p })
+      → AllLegal es × RefusedAt xs es k p
+  -- the writer accepts exactly the legal entries for which there is room
+  pub written : (e : Entry) (room : ℕ) → journal.Legal e → length (entryOctets e) ≤ room → writing e room ≡ accepted (length (entryOctets e))
+  pub accepted : (e : Entry) (room n : ℕ) → writing e room ≡ accepted n → journal.Legal e × (n ≡ length (entryOctets e)) × (n ≤ room)

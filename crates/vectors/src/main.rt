@@ -6,6 +6,7 @@ ghost use Prim.Native.Nat.{_+_, _≤_, _<_};
 ghost use lib.ListN.{length};
 
 mod fields_cases;
+mod journal_cases;
 mod list_cases;
 mod lists;
 mod print;
@@ -40,6 +41,10 @@ fn run_case(name: &[u8], head: &[usize], data: &[u8]) {
         fields_cases::pack(head, data);
     } else if check::same(name, b"list") {
         list_cases::list(data);
+    } else if check::same(name, b"entry") {
+        journal_cases::entry(head, data);
+    } else if check::same(name, b"entry_write") {
+        journal_cases::write(head, data);
     } else {
         print::malformed();
     }

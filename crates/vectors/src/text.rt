@@ -173,7 +173,7 @@ fn mark(s: Scan, x: u8) -> Scan {
 fn with_decimal(s: Scan, word: Word, digit: usize) -> Scan
     requires { ⌜ digit < 10 ⌝ }
 {
-    if usize::MAX / 10 <= s.value {
+    if (usize::MAX - digit) / 10 < s.value {
         return malformed(s);
     }
     with_word(s, word, s.value * 10 + digit)

@@ -52,6 +52,17 @@ pub struct SettingsReading {
     pub settings: Settings,
 }
 
+#[repr(C)]
+pub struct Entry {
+    pub number: u32,
+    pub entries: u32,
+    pub place: usize,
+    pub ticks: u64,
+    pub source: u64,
+    pub start: usize,
+    pub next: usize,
+}
+
 unsafe extern "C" {
     fn moult_version() -> u32;
     fn moult_count(payload: *const u8, n: usize) -> i32;
@@ -102,6 +113,15 @@ unsafe extern "C" {
         mode: u8,
         fields: *const u16,
         fields_n: usize,
+        out: *mut u8,
+        out_n: usize,
+    ) -> Writing;
+    fn moult_journal_entry_at(journal: *const u8, n: usize, at: usize) -> Entry;
+    fn moult_journal_write_entry(
+        ticks: u64,
+        source: u64,
+        payload: *const u8,
+        payload_n: usize,
         out: *mut u8,
         out_n: usize,
     ) -> Writing;
@@ -195,6 +215,23 @@ pub fn pack(mode: u8, fields: &[u16], out: &mut [u8]) -> Writing {
             mode,
             fields.as_ptr(),
             fields.len(),
+            out.as_mut_ptr(),
+            out.len(),
+        )
+    }
+}
+
+pub fn journal_entry_at(journal: &[u8], at: usize) -> Entry {
+    unsafe { moult_journal_entry_at(journal.as_ptr(), journal.len(), at) }
+}
+
+pub fn journal_write_entry(ticks: u64, source: u64, payload: &[u8], out: &mut [u8]) -> Writing {
+    unsafe {
+        moult_journal_write_entry(
+            ticks,
+            source,
+            payload.as_ptr(),
+            payload.len(),
             out.as_mut_ptr(),
             out.len(),
         )

@@ -1,5 +1,6 @@
 //! Safe calls into moult, the proved library that reads and writes RTP payloads of MELPe and TSVCIS
-//! speech frames (RFC 8817), and tells their time, setting text and 600 bps fields (RFC 8130).
+//! speech frames (RFC 8817), tells their time, setting text and 600 bps fields (RFC 8130), and keeps
+//! payloads in a [`journal`].
 //!
 //! ```
 //! let payload = [0, 0, 0, 0, 0, 0, 0, 0x00, 0xA0]; // a 2400 bps frame, then comfort noise
@@ -36,6 +37,7 @@
 mod ffi;
 mod fields;
 mod frames;
+pub mod journal;
 mod numbered;
 mod payload;
 mod refusal;
@@ -61,6 +63,8 @@ pub const MAX_FRAMES: usize = 200;
 pub const MAX_NUMBERS: usize = 2 * MAX_FRAMES;
 /// Octets that hold any setting text written.
 pub const MAX_SETTINGS: usize = 31;
+/// Octets that hold any entry of a journal.
+pub const MAX_ENTRY: usize = 1412;
 /// Numbers that hold the fields of any mode.
 pub const MAX_FIELDS: usize = 11;
 /// Octets of a 600 bps body.

@@ -19,7 +19,8 @@ numbered! {
     /// assert_eq!(Reason::Other(99).to_string(), "refusal 99");
     /// ```
     Reason: u32 {
-        /// More than 1,400 octets or, in the writer, more than 200 rows. Place: 1400.
+        /// More than 1,400 octets or, in the writer, more than 200 rows. Place: 1400; journal reader:
+        /// where the entry begins, from 0.
         TooLong = 1, "too long";
         /// A frame is cut at the front. Place: unread.
         FrameCut = 2, "frame cut at the front";
@@ -54,6 +55,11 @@ numbered! {
         WrongMode = 16, "mode not 1 to 3";
         /// A field is too large for its width. Place: field, from 0.
         FieldTooLarge = 17, "field too large";
+        /// A number of a journal's entry is not below 2^32 or not in its shortest form. Place: where
+        /// the entry begins, from 0; journal writer: 0.
+        BadNumber = 18, "bad number";
+        /// A journal ends within an entry. Place: where the entry begins, from 0.
+        EntryCut = 19, "entry cut short";
     }
 }
 
@@ -89,6 +95,10 @@ pub enum Call {
     Unpack,
     /// [`pack`](crate::pack).
     Pack,
+    /// [`journal::entries`](crate::journal::entries).
+    JournalRead,
+    /// [`journal::write_entry`](crate::journal::write_entry).
+    JournalWrite,
 }
 
 /// A refusal: why, and where or how much.
@@ -113,6 +123,10 @@ impl Refusal {
     /// The words before and behind the place, which say what it counts; none where it says nothing.
     fn around_place(self) -> Option<(&'static str, &'static str)> {
         Some(match (self.reason, self.call) {
+            (Reason::TooLong | Reason::BadNumber | Reason::EntryCut, Call::JournalRead) => (
+                "in the entry that begins at octet ",
+                " of the journal (from 0)",
+            ),
             (Reason::TooLong, Call::Write) => ("at most 200 rows and ", " octets are allowed"),
             (Reason::TooLong, _) => ("at most ", " octets are allowed"),
             (Reason::ReservedBits, Call::Write) => ("at octet ", " of the bodies (from 0)"),
@@ -137,9 +151,10 @@ impl Refusal {
             (Reason::WrongLength, Call::Unpack) => ("octets needed in the body: ", ""),
             (Reason::WrongLength, Call::Pack) => ("fields needed: ", ""),
             (Reason::FieldTooLarge, Call::Pack) => ("at field ", " (from 0)"),
-            (Reason::Unknown | Reason::WrongSettings | Reason::WrongMode, _) if self.place == 0 => {
-                return None;
-            }
+            (
+                Reason::Unknown | Reason::WrongSettings | Reason::WrongMode | Reason::BadNumber,
+                _,
+            ) if self.place == 0 => return None,
             _ => ("place ", ""),
         })
     }
@@ -197,7 +212,7 @@ mod tests {
         for number in 0..=1000 {
             let reason = Reason::from(number);
             assert_eq!(reason.number(), number);
-            assert_eq!(reason.words().is_some(), (1..=17).contains(&number));
+            assert_eq!(reason.words().is_some(), (1..=19).contains(&number));
         }
     }
 }

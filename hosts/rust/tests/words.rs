@@ -1,6 +1,6 @@
 //! Every refusal in words: why, and what its place says in the call that gave it.
 
-use moult::{Refusal, Settings};
+use moult::{Refusal, Settings, journal};
 
 fn read(payload: &[u8], rows: usize, octets: usize) -> Refusal {
     moult::read(payload, &mut vec![0; rows], &mut vec![0; octets]).unwrap_err()
@@ -153,4 +153,34 @@ fn of_fields() {
         pack(&fields),
         "refusal 17: field too large, at field 10 (from 0)",
     );
+}
+
+#[test]
+fn of_the_journal() {
+    let at = " of the journal (from 0)";
+    let says = |octets: &[u8], words: &str, place: usize| {
+        let last = journal::entries(octets).last().unwrap().unwrap_err();
+        let words = format!("{words}, in the entry that begins at octet {place}{at}");
+        assert_eq!(last.to_string(), words);
+    };
+    says(&[128, 0], "refusal 18: bad number", 0);
+    says(&[0, 0, 0, 128, 0], "refusal 18: bad number", 3);
+    says(&[0, 0, 1, 0, 5], "refusal 19: entry cut short", 4);
+    says(&[0, 0, 0, 0, 0, 249, 10], "refusal 1: too long", 3);
+
+    let write = |ticks, octets: usize| journal::write_entry(ticks, 0, &vec![0; octets], &mut []);
+    let write = |ticks, octets| write(ticks, octets).unwrap_err().to_string();
+    assert_eq!(write(1 << 32, 1401), "refusal 18: bad number");
+    assert_eq!(
+        write(0, 1401),
+        "refusal 1: too long, at most 1400 octets are allowed"
+    );
+    assert_eq!(
+        write(0, 1400),
+        "refusal 10: octet buffer too short, octets needed: 1404"
+    );
+    let most = vec![0; moult::MAX_OCTETS];
+    let top = u32::MAX.into();
+    let needed = journal::write_entry(top, top, &most, &mut []).unwrap_err();
+    assert_eq!(needed.place, moult::MAX_ENTRY);
 }

@@ -3,7 +3,7 @@
 //! through the call.
 #![allow(unsafe_code, clippy::missing_safety_doc)]
 
-use crate::{Refusal, fields, payload, settings, time, views, writer};
+use crate::{Refusal, fields, journal, payload, settings, time, views, writer};
 use std::slice::{from_raw_parts, from_raw_parts_mut};
 
 #[repr(C)]
@@ -51,6 +51,18 @@ pub struct SettingsReading {
     pub number: u32,
     pub place: usize,
     pub settings: Settings,
+}
+
+#[repr(C)]
+#[derive(Clone, Copy, Debug, Default, PartialEq)]
+pub struct Entry {
+    pub number: u32,
+    pub entries: u32,
+    pub place: usize,
+    pub ticks: u64,
+    pub source: u64,
+    pub start: usize,
+    pub next: usize,
 }
 
 fn parts<T: Default>(answer: Result<T, Refusal>) -> (u32, usize, T) {
@@ -209,6 +221,42 @@ pub unsafe extern "C" fn rust_pack(
 ) -> Writing {
     let fields = unsafe { from_raw_parts(f, fields_n) };
     writing(fields::pack(mode, fields, unsafe {
+        from_raw_parts_mut(o, on)
+    }))
+}
+
+#[unsafe(no_mangle)]
+pub unsafe extern "C" fn rust_journal_entry_at(p: *const u8, n: usize, at: usize) -> Entry {
+    match journal::entry_at(unsafe { from_raw_parts(p, n) }, at) {
+        Ok(Some(entry)) => Entry {
+            number: 0,
+            entries: 1,
+            place: 0,
+            ticks: entry.ticks.into(),
+            source: entry.source.into(),
+            start: entry.payload.start,
+            next: entry.payload.end,
+        },
+        Ok(None) => Entry::default(),
+        Err(Refusal { number, place }) => Entry {
+            number,
+            place,
+            ..Entry::default()
+        },
+    }
+}
+
+#[unsafe(no_mangle)]
+pub unsafe extern "C" fn rust_journal_write_entry(
+    ticks: u64,
+    source: u64,
+    p: *const u8,
+    n: usize,
+    o: *mut u8,
+    on: usize,
+) -> Writing {
+    let payload = unsafe { from_raw_parts(p, n) };
+    writing(journal::write_entry(ticks, source, payload, unsafe {
         from_raw_parts_mut(o, on)
     }))
 }

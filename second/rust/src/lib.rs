@@ -9,6 +9,7 @@
 #[cfg(feature = "abi")]
 pub mod abi;
 pub mod fields;
+pub mod journal;
 pub mod kinds;
 pub mod listing;
 pub mod payload;

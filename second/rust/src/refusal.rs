@@ -17,6 +17,8 @@ pub const WRONG_LENGTH: u32 = 14;
 pub const WRONG_SETTINGS: u32 = 15;
 pub const WRONG_MODE: u32 = 16;
 pub const FIELD_TOO_LARGE: u32 = 17;
+pub const BAD_NUMBER: u32 = 18;
+pub const ENTRY_CUT: u32 = 19;
 
 /// Why, and where or how much.
 #[derive(Clone, Copy, Debug, PartialEq, Eq)]

@@ -17,6 +17,19 @@ pub type Read = (usize, usize, u32, usize);
 /// A part: whether it is of the stand-in, start and length.
 pub type Part = (u32, usize, usize);
 
+/// What stands at an index of a journal; all 0 where there is no entry.
+#[derive(Clone, Debug, Default, PartialEq)]
+pub struct Entry {
+    pub entries: u32,
+    pub ticks: u64,
+    pub source: u64,
+    pub start: usize,
+    pub next: usize,
+}
+
+/// The answer for an index of a journal.
+pub type Found = Answer<Entry>;
+
 /// The raw answer; the wrapper keeps its values where accepted, its place where refused.
 #[track_caller]
 fn agreed<T: PartialEq + Debug>(raw: Answer<T>, safe: Result<T, Refusal>) -> Answer<T> {
@@ -181,5 +194,75 @@ pub fn pack(mode: u8, fields: &Lent<u16>, out: &mut Lent<u8>) -> Answer<usize> {
         out,
         |out| raw::pack(mode, fields.shared(), out),
         |out| moult::pack(mode, fields.clone().shared(), out),
+    )
+}
+
+/// The raw answer at an index, and what the wrapper says of it next: the entry in place, the same refusal at `place`, or nothing.
+fn found(
+    raw: raw::Entry,
+    journal: &[u8],
+    safe: Option<Result<moult::journal::Entry, Refusal>>,
+    place: usize,
+) -> Found {
+    match safe {
+        Some(Ok(entry)) => {
+            assert_eq!((raw.number, raw.entries), (0, 1), "the wrapper's entry");
+            let numbers = (entry.ticks.into(), entry.source.into());
+            assert_eq!((raw.ticks, raw.source), numbers, "the wrapper's numbers");
+            let payload = &journal[raw.start..raw.next];
+            assert!(ptr::eq(payload, entry.payload), "the wrapper's payload");
+        }
+        Some(Err(refusal)) => {
+            let wrapped = (refusal.reason.number(), refusal.place);
+            assert_eq!((raw.number, place), wrapped, "the wrapper's refusal");
+        }
+        None => assert_eq!((raw.number, raw.entries), (0, 0), "the wrapper's end"),
+    }
+    let entry = Entry {
+        entries: raw.entries,
+        ticks: raw.ticks,
+        source: raw.source,
+        start: raw.start,
+        next: raw.next,
+    };
+    (raw.number, raw.place, entry)
+}
+
+/// At one index; the wrapper reads a journal that begins there.
+pub fn journal_entry_at(journal: &Lent<u8>, at: usize) -> Found {
+    let copied = journal.clone();
+    let rest = copied.shared().get(at..).unwrap_or(&[]);
+    let safe = moult::journal::entries(rest).next();
+    let raw = raw::journal_entry_at(journal.shared(), at);
+    found(raw, copied.shared(), safe, 0)
+}
+
+/// Entry by entry from the start, the answer at the end or the refusal last.
+pub fn journal(journal: &Lent<u8>) -> Vec<Found> {
+    let copied = journal.clone();
+    let mut safe = moult::journal::entries(copied.shared());
+    let (mut all, mut at) = (vec![], 0);
+    loop {
+        let raw = raw::journal_entry_at(journal.shared(), at);
+        let (place, next) = (raw.place, raw.next);
+        all.push(found(raw, copied.shared(), safe.next(), place));
+        if all.last().is_some_and(|found| found.2.entries == 0) {
+            assert_eq!(safe.next(), None, "the wrapper goes on");
+            return all;
+        }
+        at = next;
+    }
+}
+
+pub fn journal_write_entry(
+    ticks: u64,
+    source: u64,
+    payload: &Lent<u8>,
+    out: &mut Lent<u8>,
+) -> Answer<usize> {
+    writing(
+        out,
+        |out| raw::journal_write_entry(ticks, source, payload.shared(), out),
+        |out| moult::journal::write_entry(ticks, source, payload.clone().shared(), out),
     )
 }

@@ -6,6 +6,7 @@
 mod both;
 mod fields;
 mod guard;
+mod journals;
 mod json;
 mod make;
 mod payloads;
@@ -49,7 +50,7 @@ fn lengthened<T: Copy>(list: &[T], by: usize, fill: T) -> Vec<T> {
 
 /// How often each refusal number was wanted: a comparison that never meets one shows nothing of it.
 #[derive(Debug, Default)]
-struct Met([usize; 18]);
+struct Met([usize; 20]);
 
 impl Met {
     fn note(&mut self, number: u32) {

@@ -5,8 +5,8 @@ use crate::both::{self, Answer};
 use crate::guard::{Lent, number, octet};
 use crate::json::Json;
 use crate::prng::Prng;
-use crate::{payloads, wanted, whole};
-use second::{fields, listing, payload, settings, time, views, writer};
+use crate::{journals, payloads, wanted, whole};
+use second::{fields, journal, listing, payload, settings, time, views, writer};
 use std::fmt::Debug;
 use std::fs;
 use std::path::{Path, PathBuf};
@@ -217,6 +217,36 @@ fn pack(case: &Case, prng: &mut Prng) {
     case.is(second, &(answer, body), "the second");
 }
 
+fn entry(case: &Case, prng: &mut Prng) {
+    let (journal, at) = (case.octets("journal"), case.number("at"));
+    let answer = case.answer(both::Entry {
+        entries: case.number("entries"),
+        ticks: case.number("ticks"),
+        source: case.number("source"),
+        start: case.number("start"),
+        next: case.number("next"),
+    });
+    let lent = Lent::holding(&journal, prng, octet);
+    case.is(both::journal_entry_at(&lent, at), &answer, "the library");
+    case.is(journals::wanted(&journal, at), &answer, "the second");
+    lent.unchanged();
+}
+
+fn entry_write(case: &Case, prng: &mut Prng) {
+    let (ticks, source) = (case.number("ticks"), case.number("source"));
+    let (payload, room) = (case.octets("payload"), case.number("octets"));
+    let entry = case.octets("entry");
+    let answer = case.answer(entry.len());
+    let lent = Lent::holding(&payload, prng, octet);
+    let mut out = Lent::new(room, prng, octet);
+    let got = both::journal_write_entry(ticks, source, &lent, &mut out);
+    case.is(got, &answer, "the library");
+    out.holds_only(&entry);
+    let mut out = vec![0; room];
+    let second = journal::write_entry(ticks, source, &payload, &mut out);
+    case.is(wanted(second, out), &(answer, entry), "the second");
+}
+
 /// The library has no listing: its program is held to these cases by itself.
 fn list(case: &Case, _: &mut Prng) {
     let lines = case.of(&case.values, "lines", Json::list);
@@ -238,6 +268,8 @@ fn run(case: &Case, prng: &mut Prng) {
         "unpack" => unpack(case, prng),
         "pack" => pack(case, prng),
         "list" => list(case, prng),
+        "entry" => entry(case, prng),
+        "entry_write" => entry_write(case, prng),
         other => panic!("{}:{}: no case: {other}", case.file.display(), case.line),
     }
 }

@@ -1,6 +1,6 @@
 //! The implementations that are measured, each at some places in memory: see places.sh.
 
-use second::abi::{Part, Reading, SettingsReading, Time, Writing};
+use second::abi::{Entry, Part, Reading, SettingsReading, Time, Writing};
 
 type CountFn = unsafe extern "C" fn(*const u8, usize) -> i32;
 type ReadFn = unsafe extern "C" fn(*const u8, usize, *mut u16, usize, *mut u8, usize) -> Reading;
@@ -13,6 +13,8 @@ type SettingsReadFn = unsafe extern "C" fn(*const u8, usize) -> SettingsReading;
 type SettingsWriteFn = unsafe extern "C" fn(u16, u16, u16, u16, *mut u8, usize) -> Writing;
 type UnpackFn = unsafe extern "C" fn(u8, *const u8, usize, *mut u16, usize) -> Writing;
 type PackFn = unsafe extern "C" fn(u8, *const u16, usize, *mut u8, usize) -> Writing;
+type EntryAtFn = unsafe extern "C" fn(*const u8, usize, usize) -> Entry;
+type WriteEntryFn = unsafe extern "C" fn(u64, u64, *const u8, usize, *mut u8, usize) -> Writing;
 
 /// One implementation at one place. The functions stand in the order that places.sh gives them.
 #[repr(C)]
@@ -28,6 +30,8 @@ pub struct Calls {
     settings_write: SettingsWriteFn,
     unpack: UnpackFn,
     pack: PackFn,
+    journal_entry_at: EntryAtFn,
+    journal_write_entry: WriteEntryFn,
 }
 
 // Each is called with the pointer and length of a slice that lives through the call.
@@ -99,6 +103,22 @@ impl Calls {
     pub fn pack(&self, mode: u8, fields: &[u16], out: &mut [u8]) -> Writing {
         let (out, out_n) = (out.as_mut_ptr(), out.len());
         unsafe { (self.pack)(mode, fields.as_ptr(), fields.len(), out, out_n) }
+    }
+
+    pub fn journal_entry_at(&self, journal: &[u8], at: usize) -> Entry {
+        unsafe { (self.journal_entry_at)(journal.as_ptr(), journal.len(), at) }
+    }
+
+    pub fn journal_write_entry(
+        &self,
+        ticks: u64,
+        source: u64,
+        payload: &[u8],
+        out: &mut [u8],
+    ) -> Writing {
+        let (out, out_n) = (out.as_mut_ptr(), out.len());
+        let (payload, payload_n) = (payload.as_ptr(), payload.len());
+        unsafe { (self.journal_write_entry)(ticks, source, payload, payload_n, out, out_n) }
     }
 }
 

@@ -110,7 +110,7 @@ pub fn measure(table: &mut Table, mixes: &[Mix], programs: &Programs, folder: &P
         .collect();
     table.sweep(|table| {
         for listed in &files {
-            table.programs("listing", listed.mix, listed.payloads, |which, place| {
+            table.runs("listing", listed.mix, listed.payloads, |which, place| {
                 time(&programs.0[which][place], &listed.file)
             });
         }

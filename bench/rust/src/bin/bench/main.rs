@@ -3,6 +3,7 @@
 mod agree;
 mod calls;
 mod inputs;
+mod journals;
 mod lent;
 mod lists;
 mod timing;
@@ -89,6 +90,10 @@ fn main() {
     });
     timing::print_setting();
     table.print("ns a call");
+    let mut journal = Table::new(word);
+    if journals::is_wanted(&journal) {
+        journals::measure(&mut journal);
+    }
     let mut listings = Table::new(word);
     if mixes.iter().any(|mix| listings.has("listing", mix.name)) {
         lists::measure(&mut listings, &mixes, &Programs::of(lists), scratch);

@@ -140,15 +140,18 @@ impl<'a> Table<'a> {
         }
     }
 
-    /// Measures one line of programs, which run longer than a call: one round a sweep. `run` takes the time of one run, of so many
-    /// calls, of an implementation at a place.
-    pub fn programs(
+    /// Measures one line of whole runs, of so many calls each, which take longer than a call: one round a sweep. `run` takes the
+    /// time of a run of an implementation at a place.
+    pub fn runs(
         &mut self,
         what: &str,
         mix: &str,
         calls: usize,
-        run: impl Fn(usize, usize) -> Duration,
+        mut run: impl FnMut(usize, usize) -> Duration,
     ) {
+        if !self.has(what, mix) {
+            return;
+        }
         let line = self.next_line(what, mix, || calls);
         for place in 0..PLACES {
             for which in 0..line.best.len() {
@@ -178,6 +181,11 @@ pub fn print_setting() {
         "one thread; buffers warm: {INPUTS} inputs a mix and one set of lent buffers a place, used again and again"
     );
     println!("of C, of Rust: their time divided by rattle's, so above 1 rattle is the faster\n");
+}
+
+pub fn print_setting_of_journal(entries: usize, octets: usize) {
+    println!("\njournal: whole runs over {entries} entries in {octets} octets of memory;");
+    print_rounds(SWEEPS);
 }
 
 pub fn print_setting_of_programs(octets: usize) {
