@@ -15,7 +15,7 @@ make TARGET, with
   host-test   the tests of the library from C and Rust, installed and as a tar file
   vectors     the recorded cases in all their forms, from tests/cases
   fuzz        the fuzzer, for SECONDS=60 (needs clang)
-  bench       the benchmark (ONLY=WORD: the lines that have the word)
+  bench       the benchmark (ONLY=WORD: the lines that have the word; BEFORE=COMMIT: that commit's library beside it)
   clean       removes target/, the proofs with it
 What is proved is not proved again until it changes; from nothing that takes some minutes.
 MOULT_LIB=FILE and MOULT_LIST=FILE name another static library and listing program to test or install.

@@ -30,11 +30,11 @@ FORCE:
 $(HOST_OUT):
 	@mkdir -p $@
 
-# What is linked with the library is linked again where MOULT_LIB names another one than the last time.
+# What is linked with the library is linked again where MOULT_LIB (or BEFORE, below) names another one than the last time.
 LINKED := $(MOULT_LIB) $(HOST_OUT)/moult_lib
 
 $(HOST_OUT)/moult_lib: FORCE | $(HOST_OUT)
-	@echo '$(MOULT_LIB)' | cmp -s - $@ || echo '$(MOULT_LIB)' > $@
+	@echo '$(MOULT_LIB) $(BEFORE)' | cmp -s - $@ || echo '$(MOULT_LIB) $(BEFORE)' > $@
 
 # ---- the library and the listing program. What rt says goes to standard error.
 
@@ -178,8 +178,18 @@ $(HOST_OUT)/second_rust.o: $(wildcard second/rust/src/*.rs) | $(HOST_OUT)
 	rustc --edition 2024 --crate-name second --crate-type lib --cfg 'feature="abi"' --emit obj=$@ \
 		-C opt-level=3 -C codegen-units=1 -C panic=abort second/rust/src/lib.rs
 
-$(HOST_OUT)/libplaces.a: bench/places.sh $(LINKED) $(HOST_OUT)/libsecond.a $(HOST_OUT)/second_rust.o
-	bench/places.sh $@ moult=moult:$(MOULT_LIB) c=second:$(HOST_OUT)/libsecond.a rust=rust:$(HOST_OUT)/second_rust.o
+# BEFORE=COMMIT measures that commit's library beside ours, too. It is built, and proved, from the commit once.
+BEFORE_LIB := $(if $(BEFORE),target/before/$(BEFORE)/target/staticlib/libmoult.a)
+
+target/before/%/target/staticlib/libmoult.a:
+	rm -rf target/before/$*
+	mkdir -p target/before/$*
+	git archive $* | tar -x -C target/before/$*
+	cd target/before/$* && rt staticlib moult >&2
+
+$(HOST_OUT)/libplaces.a: bench/places.sh $(LINKED) $(BEFORE_LIB) $(HOST_OUT)/libsecond.a $(HOST_OUT)/second_rust.o
+	bench/places.sh $@ moult=moult:$(MOULT_LIB) c=second:$(HOST_OUT)/libsecond.a rust=rust:$(HOST_OUT)/second_rust.o \
+		$(BEFORE_LIB:%=before=moult:%)
 
 # The listing programs stand at eight places too: each is linked with another number of octets before all of its functions, which
 # the linker keeps though nothing calls them.
@@ -187,7 +197,7 @@ LISTS := $(HOST_OUT)/lists
 LIST_PLACES := 0 1 2 3 4 5 6 7
 LIST_PROGRAMS := $(foreach name,rattle c rust,$(LIST_PLACES:%=$(LISTS)/$(name)_%))
 RATTLE_HOME ?= $(abspath $(dir $(realpath $(shell command -v rt)))..)
-BENCH_CARGO := MOULT_PLACES=$(abspath $(HOST_OUT)/libplaces.a) CARGO_TARGET_DIR=$(CARGO_OUT) cargo
+BENCH_CARGO := MOULT_PLACES=$(abspath $(HOST_OUT)/libplaces.a) MOULT_BEFORE=$(BEFORE) CARGO_TARGET_DIR=$(CARGO_OUT) cargo
 BENCH_CARGO_FLAGS := --offline --quiet --manifest-path bench/rust/Cargo.toml
 
 $(LISTS):

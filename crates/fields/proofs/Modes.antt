@@ -113,7 +113,7 @@ module _ (mode : ℕ) (m : isMode mode ≡ true) where
   pub mode-count : countOf mode ≤ 11
   mode-count = omega (arith, count-is, mode-ruled .room)
 
-  width-some : (i : ℕ) → i < countOf mode → 1 ≤ length (getD (tableOf mode) i [])
+  pub width-some : (i : ℕ) → i < countOf mode → 1 ≤ length (getD (tableOf mode) i [])
   unfolding tableOf
   width-some i h = omega (arith, width-consecutive 0 (widthsOf mode) i, mode-ruled .each i (omega (arith, count-is)))
 

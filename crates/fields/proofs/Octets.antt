@@ -1,6 +1,6 @@
 -- Laws of the bits of octets and of the octets that bits make.
 use mathlib.Core.Path.{_≡_, refl, sym, ap, _∙_}
-use mathlib.Core.List.{List, [], _∷_, _++_, reverse, reverse-cons, reverse-reverse, append-assoc}
+use mathlib.Core.List.{List, [], _∷_, _++_, reverse, reverse-cons, reverse-reverse}
 use Prim.Native.Nat.{ℕ, zero, suc, _+_, _-_, _*_, _/_, _%_, _^_, _≤_, _<_}
 use native.Mathlib.Nat.{mod-lt, mod-eq-of-lt, zero-mod, div-eq-of-lt, zero-div, add-div-left, add-mod-left, lt-of-lt-of-le}
 use native.Mathlib.Numerals.{add-one}
@@ -45,11 +45,6 @@ pub length-bits : (xs : List ℕ) → length (bitsOf xs) ≡ 8 * length xs
 unfolding bitsOf
 length-bits [] = refl
 length-bits (x ∷ xs) = rw length-append (omega (arith, length-octet x, length-bits xs))
-
-pub bits-of-append : (xs ys : List ℕ) → bitsOf (xs ++ ys) ≡ bitsOf xs ++ bitsOf ys
-unfolding bitsOf
-bits-of-append [] ys = refl
-bits-of-append (x ∷ xs) ys = rw (bits-of-append xs ys) (sym (append-assoc (reverse (digits 8 x)) (bitsOf xs) (bitsOf ys)))
 
 -- one bit, in its octet
 pub bit-is : (xs : List ℕ) (p : ℕ) → getD (bitsOf xs) p 0 ≡ getD xs (p / 8) 0 / 2 ^ (p % 8) % 2

@@ -3,13 +3,13 @@ use mathlib.Core.Path.{_≡_, refl, sym, ap, _∙_}
 use mathlib.Core.Bool.{cond}
 use mathlib.Core.List.{List, [], _∷_, _++_, map, flatten, map-append, append-assoc}
 use Prim.Native.Nat.{ℕ, zero, suc, _+_, _^_, _≤_, _<_}
-use native.Mathlib.Nat.{mod-eq-of-lt}
+use native.Mathlib.Nat.{mod-eq-of-lt, zero-add}
 use native.Mathlib.Decide.{decLt}
 use native.Mathlib.Omega.{arith}
 use borrow.Author.Tests.{lt-ltb, le-ltb, eqb-true}
 use lib.Dec.{ltb, eqb}
-use lib.ListN.{length, getD, replicate, take, drop, length-append, length-map}
-use lib.Seq.{take-at, drop-at}
+use lib.ListN.{length, getD, replicate, take, drop, length-append, length-map, List·getD-append}
+use lib.Seq.{take-at, drop-at, getD-append-add, ext-getD}
 use Rattle.fields.specs.Bits.{digits, spelled}
 use Rattle.fields.specs.Table.{Table, fieldBits, run, consecutive}
 use Rattle.fields.specs.RoundTrip.{total, times, EachOnce}
@@ -17,7 +17,7 @@ use Rattle.fields.proofs.Digits.{Bits, length-digits, bits-digits, spel
 use Rattle.fields.proofs.Octets.{bits-append}
 use Rattle.fields.proofs.Computed.{every-below}
 use Rattle.fields.proofs.Placed.{times-there}
-use Rattle.fields.proofs.Runs.{length-run, run-append}
+use Rattle.fields.proofs.Runs.{length-run, getD-run, run-append}
 
 pub length-fieldBits : (table : Table) (fields : List ℕ) → length fields ≡ length table → length (fieldBits table fields) ≡ length (flatten table)
 unfolding fieldBits flatten
@@ -130,3 +130,22 @@ front-step (ps ∷ table) (suc i) h = simp length-append (omega (arith, front-st
 
 pub front-le : (table : Table) (i : ℕ) → i < length table → length (flatten (take i table)) + length (getD table i []) ≤ length (flatten table)
 front-le table i h = rw (flatten-split table i h) (simp (length-append, length-append) (omega arith))
+
+-- a field of a table of the bits in order has those from the ones in front of it on
+pub field-run : (table : Table) (n : ℕ) → flatten table ≡ run 0 n → (i : ℕ) → i < length table
+    → getD table i [] ≡ run (length (flatten (take i table))) (length (getD table i []))
+field-run table n order i h = ext-getD 0 own (run at (length own)) (sym (length-run at (length own))) same
+  where
+    own : List ℕ
+    own = getD table i []
+
+    at : ℕ
+    at = length (flatten (take i table))
+
+    same : (j : ℕ) → j < length own → getD own j 0 ≡ getD (run at (length own)) j 0
+    same j l =
+        sym (List·getD-append own (flatten (drop (suc i) table)) 0 j l)
+        ∙ sym (getD-append-add (flatten (take i table)) (own ++ flatten (drop (suc i) table)) j 0)
+        ∙ ap (λ (ps : List ℕ). getD ps (at + j) 0) (sym (flatten-split table i h) ∙ order)
+        ∙ getD-run 0 n (at + j) (omega (arith, front-le table i h, ap length order, length-run 0 n))
+        ∙ zero-add (at + j) ∙ sym (getD-run at (length own) j l)

@@ -1,8 +1,8 @@
 // The fields of a 600 bps frame's body, modes 1 to 3: one table of widths, one unpacker, one packer (docs/FORMAT.md, "Fields").
 ghost use mathlib.Core.Path.{_≡_};
 ghost use mathlib.Core.Bool.{true};
-ghost use mathlib.Core.List.{[], reverse};
-ghost use Prim.Native.Nat.{_/_, _%_, _^_, _≤_, _<_};
+ghost use mathlib.Core.List.{[], _∷_, reverse};
+ghost use Prim.Native.Nat.{ℕ, _+_, _<_};
 ghost use lib.ListN.{length, getD};
 ghost use Rattle.fields.specs.Bits.{digits, spelled, bitsOf, octetsOf};
 ghost use Rattle.fields.specs.Table.{fieldsOf, fieldBits, bodyOf, firstLarge};
@@ -44,6 +44,9 @@ const WIDTHS: [[u8; MOST_FIELDS]; MODES] = [
 
 // The numbers of four bits, each with its bits in reverse order.
 const REVERSED_HALVES: [u8; 16] = [0, 8, 4, 12, 2, 10, 6, 14, 1, 9, 5, 13, 3, 11, 7, 15];
+
+// The lowest bits of a number, none to nine of them: no field is wider.
+const LOWEST_BITS: [u16; 10] = [0, 1, 3, 7, 15, 31, 63, 127, 255, 511];
 
 // The number of fields that were written, or why none was.
 pub enum Unpacked {
@@ -100,40 +103,40 @@ fn reversed(octet: u8) -> u8
     REVERSED_HALVES[low] * 16 + REVERSED_HALVES[high]
 }
 
-// The bits of a body as one number, B_01 the highest.
-fn word_of_body(body: &[u8]) -> u64
+// Each octet of a body with the one behind it as one number of 16 bits, the first bit the highest. Behind the last octet the bits are 0.
+fn neighbours(body: &[u8]) -> [u16; BODY_OCTETS]
     requires { ⌜ length (now body) ≡ 7 ⌝ }
-    ensures { λ r. ⌜ r ≡ spelled (bitsOf (now (body .entry))) ⌝ }
+    ensures { λ r. ⌜ ((i : ℕ) → i < 7 → getD r i 0 ≡ spelled (bitsOf (getD (now (body .entry)) i 0 ∷ getD (now (body .entry)) (i + 1) 0 ∷ []))) ⌝ }
 {
-    let mut word: u64 = 0;
-    let mut i = 0;
-    while i < BODY_OCTETS {
-        word = word * 256 + reversed(body[i]) as u64;
-        i += 1;
+    let mut pairs = [0u16; BODY_OCTETS];
+    let mut behind: u16 = 0;
+    let mut i = BODY_OCTETS;
+    while 0 < i {
+        i -= 1;
+        let octet = reversed(body[i]) as u16;
+        pairs[i] = octet * 256 + behind;
+        behind = octet;
     }
-    word
+    pairs
 }
 
-// The number that some neighbouring bits of a word make; `from` is the lowest of them.
-fn field_at(word: u64, from: u64, width: u64) -> u16
-    requires { ⌜ (from < 64) × (width ≤ 8) ⌝ }
-    ensures { λ r. ⌜ r ≡ word / 2 ^ from % 2 ^ width ⌝ }
-{
-    ((word >> from) % (1 << width)) as u16
-}
-
-// Takes a mode's fields out of a body.
+// Takes a mode's fields out of a body, each out of the octet where it begins and the one behind.
+// The tables are copied first: a constant is laid out anew wherever it is indexed.
 fn take_fields(mode: u8, body: &[u8], fields: &mut [u16])
     requires { ⌜ (isMode mode ≡ true) × (length (now body) ≡ 7) × (length (now fields) ≡ countOf mode) ⌝ }
     ensures { λ _. ⌜ now (fields .exit) ≡ fieldsOf (tableOf mode) (now (body .entry)) ⌝ }
 {
-    let word = word_of_body(body);
-    let mut left = BODY_BITS;
+    let m = (mode - 1) as usize;
+    let widths = WIDTHS;
+    let lowest = LOWEST_BITS;
+    let pairs = neighbours(body);
+    let mut at: usize = 0;
     let mut i = 0;
     while i < fields.len() {
-        let width = width_of(mode, i);
-        left -= width;
-        fields[i] = field_at(word, left, width);
+        let width = widths[m][i] as usize;
+        let octet = at / 8;
+        at += width;
+        fields[i] = (pairs[octet] >> (8 * octet + 16 - at)) & lowest[width];
         i += 1;
     }
 }

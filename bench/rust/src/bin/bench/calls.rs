@@ -127,12 +127,24 @@ pub const PLACES: usize = 8;
 
 pub type Placed = [Calls; PLACES];
 
-pub fn implementations() -> [&'static Placed; 3] {
-    unsafe extern "C" {
-        static places_moult: Placed;
-        static places_c: Placed;
-        static places_rust: Placed;
-    }
+unsafe extern "C" {
+    static places_moult: Placed;
+    static places_c: Placed;
+    static places_rust: Placed;
+    #[cfg(before)]
+    static places_before: Placed;
+}
+
+/// Ours, C's and Rust's; and an earlier library of ours, where there is one to compare with.
+pub fn implementations() -> Vec<&'static Placed> {
     // Tables of functions of these types, never written.
-    unsafe { [&places_moult, &places_c, &places_rust] }
+    unsafe {
+        vec![
+            &places_moult,
+            &places_c,
+            &places_rust,
+            #[cfg(before)]
+            &places_before,
+        ]
+    }
 }

@@ -52,8 +52,8 @@ impl Journal {
         };
         let payloads: usize = journal.entries.iter().map(|entry| entry.octets).sum();
         let mut octets = vec![0; payloads + 12 * ENTRIES];
-        let [rattle, ..] = calls::implementations();
-        let written = journal.write(&rattle[0], &mut octets);
+        let rattle = &calls::implementations()[0][0];
+        let written = journal.write(rattle, &mut octets);
         octets.truncate(written);
         journal.octets = octets;
         journal
@@ -119,7 +119,7 @@ pub fn measure(table: &mut Table) {
     let all = calls::implementations();
     let mut out = vec![0; journal.octets.len()];
     table.sweep(|table| {
-        table.runs("journal read", MIX, ENTRIES, |which, place| {
+        table.runs("journal read", MIX, all.len(), ENTRIES, |which, place| {
             let calls = black_box(&all[which][place]);
             time(|| {
                 journal.read(calls, |found| {
@@ -127,7 +127,7 @@ pub fn measure(table: &mut Table) {
                 });
             })
         });
-        table.runs("journal write", MIX, ENTRIES, |which, place| {
+        table.runs("journal write", MIX, all.len(), ENTRIES, |which, place| {
             let calls = black_box(&all[which][place]);
             time(|| {
                 black_box(journal.write(calls, &mut out));

@@ -110,9 +110,13 @@ pub fn measure(table: &mut Table, mixes: &[Mix], programs: &Programs, folder: &P
         .collect();
     table.sweep(|table| {
         for listed in &files {
-            table.runs("listing", listed.mix, listed.payloads, |which, place| {
-                time(&programs.0[which][place], &listed.file)
-            });
+            table.runs(
+                "listing",
+                listed.mix,
+                programs.0.len(),
+                listed.payloads,
+                |which, place| time(&programs.0[which][place], &listed.file),
+            );
         }
     });
 }

@@ -45,6 +45,12 @@ fn measure_small(table: &mut Table, small: &Small) {
     table.line("unpack", small.name, |calls, lent, i| {
         calls.unpack(mode(i), &small.bodies[i], lent.fields).octets
     });
+    for mode in 1..=3 {
+        let mix = format!("{}, mode {mode}", small.name);
+        table.line("unpack", &mix, |calls, lent, i| {
+            calls.unpack(mode, &small.bodies[i], lent.fields).octets
+        });
+    }
     table.line("pack", small.name, |calls, lent, i| {
         calls.pack(mode(i), &small.fields[i], lent.out).octets
     });

@@ -1,4 +1,4 @@
-//! Times one line of the table for the three implementations in turn, each at several places, best of several rounds.
+//! Times one line of the table for the implementations in turn, each at several places, best of several rounds.
 
 use crate::calls::{self, Calls, PLACES};
 use crate::inputs::INPUTS;
@@ -43,11 +43,11 @@ fn mean(times: [Duration; PLACES]) -> f64 {
     (logs / PLACES as f64).exp()
 }
 
-/// The best times of the three implementations at each place, in rounds of so many calls.
+/// The best times of the implementations at each place, in rounds of so many calls.
 struct Line {
     name: String,
     calls: usize,
-    best: [[Duration; PLACES]; 3],
+    best: Vec<[Duration; PLACES]>,
 }
 
 impl Line {
@@ -57,13 +57,17 @@ impl Line {
     }
 
     fn print(&self) {
-        let [rattle, c, rust] = self.best.map(|times| mean(times) / self.calls as f64);
-        println!(
-            "{} {rattle:>9.1} {c:>9.1} {rust:>9.1} {:>7.2} {:>7.2}",
-            self.name,
-            c / rattle,
-            rust / rattle
-        );
+        let times: Vec<f64> = self
+            .best
+            .iter()
+            .map(|times| mean(*times) / self.calls as f64)
+            .collect();
+        print!("{}", self.name);
+        times.iter().for_each(|time| print!(" {time:>9.1}"));
+        times[1..]
+            .iter()
+            .for_each(|time| print!(" {:>9.2}", time / times[0]));
+        println!();
     }
 }
 
@@ -100,12 +104,18 @@ impl<'a> Table<'a> {
     }
 
     /// The sweep's next line; in the first sweep a new one, of so many calls a round.
-    fn next_line(&mut self, what: &str, mix: &str, calls: impl FnOnce() -> usize) -> &mut Line {
+    fn next_line(
+        &mut self,
+        what: &str,
+        mix: &str,
+        implementations: usize,
+        calls: impl FnOnce() -> usize,
+    ) -> &mut Line {
         if self.next == self.lines.len() {
             self.lines.push(Line {
                 name: format!("{what:<15} {mix:<22}"),
                 calls: calls(),
-                best: [[Duration::MAX; PLACES]; 3],
+                best: vec![[Duration::MAX; PLACES]; implementations],
             });
         }
         self.next += 1;
@@ -124,7 +134,7 @@ impl<'a> Table<'a> {
         }
         let all = calls::implementations();
         let mut memory = Memory::new();
-        let line = self.next_line(what, mix, || {
+        let line = self.next_line(what, mix, all.len(), || {
             passes_of_a_round(&work, &all[0][0], &mut memory.at(0)) * INPUTS
         });
         let passes = line.calls / INPUTS;
@@ -140,19 +150,20 @@ impl<'a> Table<'a> {
         }
     }
 
-    /// Measures one line of whole runs, of so many calls each, which take longer than a call: one round a sweep. `run` takes the
-    /// time of a run of an implementation at a place.
+    /// Measures one line of whole runs of so many implementations, of so many calls each, which take longer than a call: one round
+    /// a sweep. `run` takes the time of a run of an implementation at a place.
     pub fn runs(
         &mut self,
         what: &str,
         mix: &str,
+        implementations: usize,
         calls: usize,
         mut run: impl FnMut(usize, usize) -> Duration,
     ) {
         if !self.has(what, mix) {
             return;
         }
-        let line = self.next_line(what, mix, || calls);
+        let line = self.next_line(what, mix, implementations, || calls);
         for place in 0..PLACES {
             for which in 0..line.best.len() {
                 line.keep(which, place, run(which, place));
@@ -161,18 +172,21 @@ impl<'a> Table<'a> {
     }
 
     pub fn print(&self, unit: &str) {
-        println!(
-            "{:<15} {:<22} {:>9} {:>9} {:>9} {:>7} {:>7}",
-            unit, "mix", "rattle", "C", "Rust", "of C", "of Rust"
-        );
+        let implementations = self.lines.first().map_or(0, |line| line.best.len());
+        let names = &["rattle", "C", "Rust", "before"][..implementations];
+        print!("{unit:<15} {:<22}", "mix");
+        names.iter().for_each(|name| print!(" {name:>9}"));
+        names
+            .iter()
+            .skip(1)
+            .for_each(|name| print!(" {:>9}", format!("of {name}")));
+        println!();
         self.lines.iter().for_each(Line::print);
     }
 }
 
 fn print_rounds(rounds: usize) {
-    println!(
-        "mean of {PLACES} places in memory, at each the best of {rounds} rounds, the three in turn"
-    );
+    println!("mean of {PLACES} places in memory, at each the best of {rounds} rounds, all in turn");
 }
 
 pub fn print_setting() {
@@ -180,7 +194,7 @@ pub fn print_setting() {
     println!(
         "one thread; buffers warm: {INPUTS} inputs a mix and one set of lent buffers a place, used again and again"
     );
-    println!("of C, of Rust: their time divided by rattle's, so above 1 rattle is the faster\n");
+    println!("of C and so on: its time divided by rattle's, so above 1 rattle is the faster\n");
 }
 
 pub fn print_setting_of_journal(entries: usize, octets: usize) {
