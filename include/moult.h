@@ -67,9 +67,11 @@ enum {
     MOULT_KIND_1200 = 2,          /* body of 11 octets, last at most 1; on the wire 128, 129 */
     MOULT_KIND_600 = 3,           /* body of 7 octets, last at most 63; on the wire 64 to 127 */
     MOULT_KIND_COMFORT_NOISE = 4, /* body of 2 octets, last at most 31; on the wire 160 to 191 */
-    MOULT_KIND_TSVCIS = 5         /* body of 7 + TC octets, the seventh at most 63: a 2400 bps frame
+    MOULT_KIND_TSVCIS = 5,        /* body of 7 + TC octets, the seventh at most 63: a 2400 bps frame
                                      and its augmentation; TC is 1 to 255. On the wire its count
                                      follows: 192 + (TC - 15) for TC 15 to 77, else TC and 255 */
+    MOULT_KIND_TSVCIS_LONG = 6    /* the same with a long count where a short one would do: TC is 15
+                                     to 77; on the wire TC and 255 follow */
 };
 
 /* Refusal numbers. Payloads are read from the last frame to the first, and "unread" is how many
@@ -82,7 +84,7 @@ enum {
     MOULT_RESERVED_BITS = 3,           /* place: unread; writer: index in the lent bodies, counted
                                           from their start; fields: index in the body */
     MOULT_LONG_COUNT_ZERO = 4,         /* place: unread */
-    MOULT_LONG_COUNT_SHORT_RANGE = 5,  /* long count of 15 to 77; place: unread */
+    MOULT_LONG_COUNT_SHORT_RANGE = 5,  /* no longer given: a long count of 15 to 77 makes kind 6 */
     MOULT_COMFORT_NOISE_NOT_LAST = 6,  /* place: unread; writer: row, from 0 */
     MOULT_AUGMENTATION_NOT_2400 = 7,   /* place: unread */
     MOULT_RATES_MIXED = 8,             /* place: unread (the later frames set the rate); writer:
@@ -182,15 +184,16 @@ int32_t moult_count(const uint8_t *payload, size_t n);
 
 /* Reads a payload of n octets: for each frame, oldest first, its kind and TC into rows, and its
    body into bodies.
-   Refuses 1, then from the last frame to the first 2 (for a lone 255), 4, 5, 3, 2, 6, 7, 8 with the
+   Refuses 1, then from the last frame to the first 2 (for a lone 255), 4, 3, 2, 6, 7, 8 with the
    place "unread";
    then 9 with the rows needed if rows_n, halved and rounded down, is too small, and 10 with the
    octets needed if bodies_n is. MOULT_MAX_NUMBERS and MOULT_MAX_OCTETS are enough for any payload. */
 moult_reading moult_read(const uint8_t *payload, size_t n, uint16_t *rows, size_t rows_n,
                          uint8_t *bodies, size_t bodies_n);
 
-/* The octets of the body of a row: 7, 11, 7, 2 or 7 + TC. 0 where the library does not know the kind
-   or the TC is wrong for it; no body has 0 octets, and it knows every row that moult_read gives. */
+/* The octets of the body of a row: 7, 11, 7, 2, and 7 + TC for kinds 5 and 6. 0 where the library
+   does not know the kind or the TC is wrong for it; no body has 0 octets, and it knows every row
+   that moult_read gives. */
 size_t moult_body_octets(uint16_t kind, uint16_t tc);
 
 /* Writes the payload of rows (rows_n numbers, two a frame) and bodies (one after another) into out.
@@ -212,7 +215,8 @@ moult_ticks moult_packet_ticks(const uint8_t *payload, size_t n);
 moult_millis moult_ptime(uint32_t rate, size_t frames);
 
 /* Where the augmentation of a row (from 0) stands in the payload; start 0 and length 0 if the
-   payload is refused, the row is missing or its frame is not TSVCIS. stand_in is 0. */
+   payload is refused, the row is missing or its frame is not TSVCIS (kind 5 or 6). stand_in is
+   0. */
 moult_part moult_augmentation(const uint8_t *payload, size_t n, size_t row);
 
 /* Where the wire octets of a row (from 0) stand in the payload, rate code bits and count included;
@@ -323,6 +327,8 @@ static inline const char *moult_kind_text(uint16_t kind)
         return "comfort noise";
     case MOULT_KIND_TSVCIS:
         return "TSVCIS";
+    case MOULT_KIND_TSVCIS_LONG:
+        return "TSVCIS with a long count";
     default:
         return "a kind that this header does not know";
     }

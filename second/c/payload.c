@@ -20,6 +20,7 @@ static const kind_row kinds[] = {
     [MOULT_KIND_600] = {600, 7, 63, 64, 0, 0},
     [MOULT_KIND_COMFORT_NOISE] = {0, 2, 31, 160, 0, 0},
     [MOULT_KIND_TSVCIS] = {2400, 7, 63, 0, 1, 255},
+    [MOULT_KIND_TSVCIS_LONG] = {2400, 7, 63, 0, 15, 77},
 };
 
 static inline int is_kind(uint16_t kind)
@@ -37,10 +38,18 @@ static inline size_t body_octets(uint16_t kind, size_t tc)
     return kinds[kind].base + tc;
 }
 
-/* TC 15 to 77 stands in a short count, any other in a long one; kinds 1 to 4 have no count. */
-static inline size_t count_octets(size_t tc)
+static inline int in_short_range(size_t tc)
 {
-    return tc == 0 ? 0 : tc >= 15 && tc <= 77 ? 1 : 2;
+    return tc >= 15 && tc <= 77;
+}
+
+/* Kind 5 has a short count where TC allows one, else a long one; kind 6 always a long one; kinds 1
+   to 4 have none. */
+static inline size_t count_octets(uint16_t kind, size_t tc)
+{
+    if (tc == 0)
+        return 0;
+    return kind == MOULT_KIND_TSVCIS && in_short_range(tc) ? 1 : 2;
 }
 
 static inline size_t ticks_of(uint32_t rate)
@@ -93,9 +102,10 @@ static inline uint32_t name(const uint8_t *p, size_t unread, frame *f)
         size_t tc = p[unread - 2];
         if (tc == 0)
             return MOULT_LONG_COUNT_ZERO;
-        if (tc >= 15 && tc <= 77)
-            return MOULT_LONG_COUNT_SHORT_RANGE;
-        *f = frame_of(MOULT_KIND_TSVCIS, tc, 2);
+        if (in_short_range(tc))
+            *f = frame_of(MOULT_KIND_TSVCIS_LONG, tc, 2);
+        else
+            *f = frame_of(MOULT_KIND_TSVCIS, tc, 2);
     }
     return 0;
 }
@@ -302,7 +312,7 @@ static inline void put_frame(uint16_t kind, uint16_t tc, const uint8_t *body, ui
     *end = (uint8_t)(*end + kinds[kind].code);
     if (tc == 0)
         return;
-    if (count_octets(tc) == 1) {
+    if (count_octets(kind, tc) == 1) {
         out[length] = (uint8_t)(192 + tc - 15);
     } else {
         out[length] = (uint8_t)tc;
@@ -327,7 +337,7 @@ moult_writing second_write(const uint16_t *rows, size_t rows_n, const uint8_t *b
         if (kind != MOULT_KIND_COMFORT_NOISE)
             rate = kinds[kind].rate;
         sum += body_octets(kind, tc);
-        wire += body_octets(kind, tc) + count_octets(tc);
+        wire += body_octets(kind, tc) + count_octets(kind, tc);
     }
     if (wire > MOULT_MAX_OCTETS)
         return writing(MOULT_TOO_LONG, MOULT_MAX_OCTETS, 0);
@@ -348,7 +358,7 @@ moult_writing second_write(const uint16_t *rows, size_t rows_n, const uint8_t *b
         uint16_t kind = rows[2 * i], tc = rows[2 * i + 1];
         put_frame(kind, tc, bodies + from, out + to);
         from += body_octets(kind, tc);
-        to += body_octets(kind, tc) + count_octets(tc);
+        to += body_octets(kind, tc) + count_octets(kind, tc);
     }
     return writing(0, 0, wire);
 }

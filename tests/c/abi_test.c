@@ -123,7 +123,7 @@ static void bench_payloads(void)
     one_row("00*7 AA 01 FF", 5, 1, 8, 180);
     CHECK(bodies[7] == 0xAA);
     refused("00*9 FF", 4, 10);
-    refused("00*22 0F FF", 5, 24);
+    one_row("00*22 0F FF", 6, 15, 22, 180);
     refused("00*7 01 FF", 2, 9);
     refused("00*1401", 1, 1400);
     moult_reading most = read_into_guarded("00*1400");
@@ -171,12 +171,16 @@ static void room(void)
 
 static void body_octets(void)
 {
-    CHECK(moult_body_octets(0, 0) == 0 && moult_body_octets(6, 0) == 0);
+    CHECK(moult_body_octets(0, 0) == 0 && moult_body_octets(7, 15) == 0);
     CHECK(moult_body_octets(65535, 0) == 0 && moult_body_octets(257, 0) == 0);
     CHECK(moult_body_octets(MOULT_KIND_2400, 1) == 0 && moult_body_octets(MOULT_KIND_600, 1) == 0);
     CHECK(moult_body_octets(MOULT_KIND_TSVCIS, 0) == 0);
     CHECK(moult_body_octets(MOULT_KIND_TSVCIS, 255) == 262);
     CHECK(moult_body_octets(MOULT_KIND_TSVCIS, 256) == 0);
+    CHECK(moult_body_octets(MOULT_KIND_TSVCIS_LONG, 14) == 0);
+    CHECK(moult_body_octets(MOULT_KIND_TSVCIS_LONG, 15) == 22);
+    CHECK(moult_body_octets(MOULT_KIND_TSVCIS_LONG, 77) == 84);
+    CHECK(moult_body_octets(MOULT_KIND_TSVCIS_LONG, 78) == 0);
 }
 
 /* Each number has a text of its own; one that is not known has one too. */
@@ -192,7 +196,7 @@ static void texts(void)
     CHECK(strcmp(moult_refusal_text(UINT32_MAX), other) == 0);
     CHECK(strcmp(moult_refusal_text(6), "comfort noise not last") == 0);
     other = moult_kind_text(0);
-    for (uint16_t kind = MOULT_KIND_2400; kind <= MOULT_KIND_TSVCIS; kind++)
+    for (uint16_t kind = MOULT_KIND_2400; kind <= MOULT_KIND_TSVCIS_LONG; kind++)
         CHECK(strlen(moult_kind_text(kind)) > 0 && strcmp(moult_kind_text(kind), other) != 0);
     CHECK(strcmp(moult_kind_text(65535), other) == 0);
     CHECK(strcmp(moult_kind_text(4), "comfort noise") == 0);

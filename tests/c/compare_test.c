@@ -75,6 +75,13 @@ static uint8_t end_of(uint16_t kind)
     return kind == MOULT_KIND_1200 ? 1 : kind == MOULT_KIND_COMFORT_NOISE ? 31 : 63;
 }
 
+/* A TSVCIS frame, with either count where its TC allows both. */
+static uint16_t random_tsvcis(uint16_t tc)
+{
+    int both = second_body_octets(MOULT_KIND_TSVCIS_LONG, tc) > 0;
+    return both && one_in(2) ? MOULT_KIND_TSVCIS_LONG : MOULT_KIND_TSVCIS;
+}
+
 static void add_frame(sequence *s, uint16_t kind, uint16_t tc)
 {
     uint8_t *body = s->bodies + s->bodies_n;
@@ -91,17 +98,18 @@ static void add_frame(sequence *s, uint16_t kind, uint16_t tc)
 static void make_sequence(sequence *s)
 {
     static const uint16_t kinds[] = {MOULT_KIND_2400, MOULT_KIND_1200, MOULT_KIND_600};
-    uint16_t kind = kinds[below(3)];
+    uint16_t plain = kinds[below(3)];
     size_t frames = one_in(20) ? below(MOULT_MAX_FRAMES + 1) : below(6);
     size_t wire = 0;
     s->rows_n = s->bodies_n = 0;
     for (size_t i = 0; i < frames; i++) {
-        int augmented = kind == MOULT_KIND_2400 && one_in(2);
+        int augmented = plain == MOULT_KIND_2400 && one_in(2);
         uint16_t tc = augmented ? random_tc() : 0;
-        wire += second_body_octets(augmented ? MOULT_KIND_TSVCIS : kind, tc) + 2;
+        uint16_t kind = augmented ? random_tsvcis(tc) : plain;
+        wire += second_body_octets(kind, tc) + 2;
         if (wire > MOULT_MAX_OCTETS - 2)
             break;
-        add_frame(s, augmented ? MOULT_KIND_TSVCIS : kind, tc);
+        add_frame(s, kind, tc);
     }
     if (one_in(3) && s->rows_n < MOULT_MAX_NUMBERS)
         add_frame(s, MOULT_KIND_COMFORT_NOISE, 0);
@@ -119,7 +127,7 @@ static void try_write(const uint16_t *rows, size_t rows_n, const uint8_t *bodies
 /* Any number that a row list may hold. */
 static uint16_t random_number(void)
 {
-    return one_in(3) ? (uint16_t)random_64() : (uint16_t)below(7);
+    return one_in(3) ? (uint16_t)random_64() : (uint16_t)below(8);
 }
 
 static void try_damaged_rows(sequence *s)
@@ -196,7 +204,7 @@ static void try_limits(void)
         payload[n - 1] = 0;
     }
     for (size_t frames = 199; frames <= 201; frames++) {
-        for (uint16_t kind = 0; kind <= 6; kind++) {
+        for (uint16_t kind = 0; kind <= 7; kind++) {
             for (size_t i = 0; i < frames; i++) {
                 rows[2 * i] = kind;
                 rows[2 * i + 1] = 0;
@@ -212,9 +220,52 @@ static void try_limits(void)
             rows[2 * i] = MOULT_KIND_TSVCIS;
             rows[2 * i + 1] = 255;
         }
-        rows[10] = MOULT_KIND_TSVCIS;
         rows[11] = tc;
-        try_write(rows, 12, bodies, 5 * 262 + 7u + tc);
+        for (uint16_t kind = MOULT_KIND_TSVCIS; kind <= MOULT_KIND_TSVCIS_LONG; kind++) {
+            rows[10] = kind;
+            try_write(rows, 12, bodies, 5 * 262 + 7u + tc);
+        }
+    }
+}
+
+/* Every TC up to 300 of both TSVCIS kinds, alone and in front of another row. */
+static void try_tcs(void)
+{
+    static uint8_t bodies[314];
+    for (uint16_t tc = 0; tc <= 300; tc++) {
+        for (uint16_t kind = MOULT_KIND_TSVCIS; kind <= MOULT_KIND_TSVCIS_LONG; kind++) {
+            uint16_t rows[4] = {kind, tc, MOULT_KIND_2400, 0};
+            try_write(rows, 2, bodies, 7u + tc);
+            try_write(rows, 4, bodies, 14u + tc);
+            rows[2] = MOULT_KIND_600;
+            try_write(rows, 4, bodies, 14u + tc);
+        }
+    }
+}
+
+/* Every long count behind bases of several ends: alone, with octets missing in front, with a frame
+   in front, and with a frame behind. */
+static void try_long_counts(void)
+{
+    static const uint8_t ends[] = {0, 63, 64, 127, 128, 129, 160, 192, 255};
+    static uint8_t payload[300];
+    uint8_t *frame = payload + 7;
+    for (unsigned tc = 0; tc < 256; tc++) {
+        for (size_t i = 0; i < sizeof ends; i++) {
+            size_t n = 9 + tc;
+            memset(payload, 0, sizeof payload);
+            memset(frame + 7, random_octet(), tc);
+            payload[6] = ends[below(sizeof ends)];
+            frame[6] = ends[i];
+            frame[n - 2] = (uint8_t)tc;
+            frame[n - 1] = 255;
+            try_payload(frame, n);
+            for (size_t missing = 1; missing < 10; missing++)
+                try_payload(frame + missing, n - missing);
+            try_payload(payload, n + 7);
+            frame[n + 6] = one_in(2) ? 0 : 64;
+            try_payload(frame, n + 7);
+        }
     }
 }
 
@@ -451,6 +502,8 @@ int main(void)
 {
     try_sequences();
     try_limits();
+    try_tcs();
+    try_long_counts();
     try_ends();
     try_random_octets();
     try_body_octets();

@@ -1,5 +1,5 @@
--- Lines differ, whatever their numbers: that of a refused payload from that of any accepted one, and that of a payload with
--- frames from that of an empty one.
+-- Lines differ, whatever their numbers: that of a refused payload from that of any accepted one and of any other refusal, and that of a
+-- payload with frames from that of an empty one.
 use mathlib.Core.Path.{_≡_, refl, sym, ap, _∙_}
 use mathlib.Core.Logic.{_⊎_, inl, inr}
 use mathlib.Core.List.{List, [], _∷_, _++_, append-assoc}
@@ -8,7 +8,9 @@ use native.Mathlib.Omega.{arith}
 use lib.ListN.{length}
 use Rattle.wire.specs.Frame.{Frame}
 use Rattle.clock.specs.Time.{ticksOf}
-use Rattle.wire.specs.Walk.{at, refused, readOf}
+use Rattle.wire.specs.Walk.{Walk, at, refused, readOf}
+use Rattle.wire.proofs.Ranges.{in-range}
+use Rattle.octets.specs.Octet.{Octets}
 use Rattle.octets.proofs.Order.{below-or}
 use Rattle.listing.specs.Line.{digits, decimal, okWord, refusedWord, numbered, lineWith, lineOf, payloadLine}
 use Rattle.listing.proofs.Digits.{digits-one, digits-more, valueFrom, decimal-value}
@@ -51,6 +53,11 @@ before-space (d ∷ ds) (e ∷ es) xs ys a b q =
     let w : ds ≡ es = before-space ds es xs ys (a .1) (b .1) (let y : ds ++ (32 ∷ xs) ≡ es ++ (32 ∷ ys) = cc in y) in
     cc
 
+-- what stands behind a word
+behind-word : (w xs ys : List ℕ) → w ++ xs ≡ w ++ ys → xs ≡ ys
+behind-word [] xs ys q = q
+behind-word (d ∷ w) xs ys q = behind-word w xs ys (let z : w ++ xs ≡ w ++ ys = cc in z)
+
 -- a line from its first number on
 line-parts : (n : ℕ) (w : List ℕ) (a b : ℕ) → lineWith n w a b ≡ decimal n ++ (w ++ (decimal a ++ (32 ∷ (decimal b ++ (10 ∷ [])))))
 line-parts n w a b =
@@ -75,11 +82,11 @@ pub refused-not-empty : (p : List ℕ) (n m k place : ℕ) (behind : List Frame)
 unfolding readOf
 refused-not-empty p n m k place behind ep e = refused-line p [] n m k place 0 behind [] ep refl e
 
--- two lines of accepted payloads: as many frames
-same-frames : (n m a b x y : ℕ) → a < 18446744073709551616 → x < 18446744073709551616 → lineWith n okWord a b ≡ lineWith m okWord x y → a ≡ x
-same-frames n m a b x y la lx q =
-    let r = behind-space (decimal n) (decimal m) _ _ (decimal-plain n) (decimal-plain m) (sym (line-parts n okWord a b) ∙ q ∙ line-parts m okWord x y) in
-    let s : decimal a ++ (32 ∷ (decimal b ++ (10 ∷ []))) ≡ decimal x ++ (32 ∷ (decimal y ++ (10 ∷ []))) = cc in
+-- two lines with the same word: the same number behind it
+same-number : (w : List ℕ) (n m a b x y : ℕ) → a < 18446744073709551616 → x < 18446744073709551616 → lineWith n (32 ∷ w) a b ≡ lineWith m (32 ∷ w) x y → a ≡ x
+same-number w n m a b x y la lx q =
+    let r = behind-space (decimal n) (decimal m) _ _ (decimal-plain n) (decimal-plain m) (sym (line-parts n (32 ∷ w) a b) ∙ q ∙ line-parts m (32 ∷ w) x y) in
+    let s : decimal a ++ (32 ∷ (decimal b ++ (10 ∷ []))) ≡ decimal x ++ (32 ∷ (decimal y ++ (10 ∷ []))) = behind-word w _ _ r in
     let d : decimal a ≡ decimal x = before-space (decimal a) (decimal x) _ _ (decimal-plain a) (decimal-plain x) s in
     sym (decimal-value a la) ∙ ap (valueFrom 0) d ∙ decimal-value x lx
 
@@ -87,5 +94,17 @@ pub frames-not-empty : (p : List ℕ) (n m : ℕ) (fs : List Frame) → readOf p
     → payloadLine n p ≡ payloadLine m [] → ⊥
 unfolding readOf
 frames-not-empty p n m fs ep h l e =
-    let z : length fs ≡ 0 = same-frames n m (length fs) (ticksOf fs) 0 0 (omega arith) (omega arith) (sym (ap (lineOf n) ep) ∙ e) in
+    let z : length fs ≡ 0 = same-number (111 ∷ 107 ∷ 32 ∷ []) n m (length fs) (ticksOf fs) 0 0 (omega arith) (omega arith) (sym (ap (lineOf n) ep) ∙ e) in
     omega arith
+
+-- a payload whose line is that of a refusal is refused by its number
+pub line-refusal : (p : List ℕ) (n m k place : ℕ) → Octets p → k < 18446744073709551616 → payloadLine n p ≡ lineWith m refusedWord k place
+    → (q : ℕ) × (behind : List Frame) × (readOf p ≡ refused k q behind)
+line-refusal p n m k place o h e = go (readOf p) refl e
+  where
+    go : (w : Walk) → readOf p ≡ w → lineOf n w ≡ lineWith m refusedWord k place → (q : ℕ) × (behind : List Frame) × (readOf p ≡ refused k q behind)
+    go (at u fs) q d = absurd (lines-differ m n k place (length fs) (ticksOf fs) (sym d))
+    go (refused j i behind) q d =
+        let r = in-range p j i behind o q in
+        let z : j ≡ k = same-number (114 ∷ 101 ∷ 102 ∷ 117 ∷ 115 ∷ 101 ∷ 100 ∷ 32 ∷ []) n m j i k place (omega (arith, r .0)) h d in
+        (i, behind, q ∙ ap (λ (x : ℕ). refused x i behind) z)

@@ -35,4 +35,6 @@ payloads =
     ∷ (zeros 6 ++ 0x40 ∷ zeros 15 ++ 0xc0 ∷ [], refusal 7 23)
     ∷ (zeros 7 ++ 0xaa ∷ 1 ∷ 0xff ∷ [], rows (5 ∷ 1 ∷ []) (zeros 7 ++ 0xaa ∷ []) 180)
     ∷ (zeros 9 ++ 0xff ∷ [], refusal 4 10)
+    ∷ (zeros 22 ++ 0x0f ∷ 0xff ∷ [], rows (6 ∷ 15 ∷ []) (zeros 22) 180)
+    ∷ (0x0f ∷ 0xff ∷ [], refusal 2 2)
     ∷ []

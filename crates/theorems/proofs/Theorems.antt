@@ -17,11 +17,15 @@ use Rattle.listing.proofs.LineByLine.{says, only}
 use Rattle.listing.proofs.LineNumbers.{lines-most}
 use Rattle.listing.proofs.Joined.{joined}
 use Rattle.listing.proofs.Sample.{sample}
-use Rattle.theorems.specs.Theorems.{WalkIsExact, ReadingUndoesWriting, BenchPayloads, PtimesDecided, ViewsJoin, SettingsAreExact, FieldsReturn, NumbersAreExact, ListingIsExact, BadNumbersAreExact, JournalsAreExact}
+use Rattle.theorems.specs.Theorems.{WalkIsExact, FiveIsNotGiven, ReadingUndoesWriting, BenchPayloads, PtimesDecided, ViewsJoin, SettingsAreExact, FieldsReturn, NumbersAreExact, ListingIsExact, BadNumbersAreExact, JournalsAreExact}
 use Rattle.theorems.proofs.RoundTrips.{read-written, written-read}
+use Rattle.theorems.proofs.NotGiven.{end-not, walk-not, reading-not, count-not, time-not, line-not}
 
 pub walk-is-exact : WalkIsExact
 walk-is-exact = record { sound = sound; complete = complete; unique = unique }
+
+pub five-is-not-given : FiveIsNotGiven
+five-is-not-given = record { end = end-not; walk = walk-not; reading = reading-not; count = count-not; time = time-not; line = line-not }
 
 pub reading-undoes-writing : ReadingUndoesWriting
 reading-undoes-writing = record { read = read-written; written = written-read }

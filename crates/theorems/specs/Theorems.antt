@@ -3,11 +3,16 @@ use mathlib.Core.Path.{_≡_}
 use mathlib.Core.List.{List, _++_, map}
 use mathlib.Core.Option.{Option, some}
 use Prim.Native.Nat.{ℕ, _+_, _*_, _≤_}
+use lib.IntN.{ℤ, pos, negℤ}
 use lib.ListN.{length, take, drop}
+use Rattle.refusal.specs.Numbers.{longCountShortRange}
 use Rattle.refusal.specs.Report.{accepted}
 use Rattle.octets.specs.Octet.{Octets}
 use Rattle.wire.specs.Frame.{Frame, Legal, octetsOf}
 use Rattle.wire.specs.Walk.{at, readOf}
+use Rattle.wire.specs.Answers.{endingReport, walkedReport, Identified, Walks}
+use Rattle.wire.specs.declared.Ending.{Ending as Named}
+use Rattle.wire.specs.declared.Walked.{Walked}
 use Rattle.reader.specs.Reading.{readingReport}
 use Rattle.reader.specs.Promise.{Reads}
 use Rattle.reader.specs.Bench.{Gives, givesOf, payloads}
@@ -15,7 +20,8 @@ use Rattle.reader.specs.declared.Reading.{Reading}
 use Rattle.writer.specs.Answers.{writingReport}
 use Rattle.writer.specs.Promise.{Writes}
 use Rattle.writer.specs.declared.Writing.{Writing}
-use Rattle.clock.specs.Time.{millisIn, ptimeOf}
+use Rattle.clock.specs.Time.{millisIn, ptimeOf, packetReport, PacketTime}
+use Rattle.clock.specs.declared.PacketTicks.{PacketTicks}
 use Rattle.views.specs.View.{shownOf}
 use Rattle.fmtp.specs.Settings.{IsSettings}
 use Rattle.fmtp.specs.Text.{textOf}
@@ -39,15 +45,26 @@ use Rattle.journal.specs.Entry.{Entry, mostGroups, topNumber, entryOctets, jour
 use Rattle.journal.specs.Entry as journal
 use Rattle.journal.specs.Answers.{writing}
 use Rattle.journal.specs.Replay.{Ending, whole, Replay, RefusedAt}
+use Rattle.listing.specs.Line.{refusedWord, lineWith, payloadLine}
 use Rattle.listing.specs.Listing.{Lists, Stage, run, fresh, listing}
 use Rattle.listing.specs.Answers.{Calls}
 use Rattle.listing.specs.Sample.{input, output}
+use Rattle.moult.specs.Promises.{Counted}
 
 -- the walk, which says which refusal is given, accepts exactly the octets of legal sequences, and finds the one that gives them
 pub record WalkIsExact : Type 0 where
   pub sound : (p : List ℕ) (fs : List Frame) → Octets p → readOf p ≡ at 0 fs → Legal fs × (octetsOf fs ≡ p)
   pub complete : (fs : List Frame) → Legal fs → readOf (octetsOf fs) ≡ at 0 fs
   pub unique : (fs gs : List Frame) → Legal fs → Legal gs → octetsOf fs ≡ octetsOf gs → fs ≡ gs
+
+-- "5 is no longer given": not for the end of unread octets, and by no answer about a payload
+pub record FiveIsNotGiven : Type 0 where
+  pub end : (u : List ℕ) → Octets u → (a : Named) → Identified u a → endingReport (length u) a .number ≡ longCountShortRange → ⊥
+  pub walk : (p : List ℕ) → Octets p → (a : Walked) → Walks p a → walkedReport a .number ≡ longCountShortRange → ⊥
+  pub reading : (p : List ℕ) → Octets p → (r b r′ b′ : List ℕ) (a : Reading) → Reads p r b a r′ b′ → readingReport a .number ≡ longCountShortRange → ⊥
+  pub count : (p : List ℕ) → Octets p → (a : ℤ) → Counted p a → a ≡ negℤ (pos longCountShortRange) → ⊥
+  pub time : (p : List ℕ) → Octets p → (a : PacketTicks) → PacketTime p a → packetReport a .number ≡ longCountShortRange → ⊥
+  pub line : (p : List ℕ) → Octets p → (n m place : ℕ) → payloadLine n p ≡ lineWith m refusedWord longCountShortRange place → ⊥
 
 -- "Reading and writing undo each other, both ways": of any two calls that keep the promises of `read` and `write`
 pub record ReadingUndoesWriting : Type 0 where

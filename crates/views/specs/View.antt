@@ -24,7 +24,7 @@ span a n = record { start = a; length = n }
 abbrev pub emptySpan : Span
 emptySpan = span 0 0
 
--- a kind that has augmentation, by its entry in the table: its TC can be more than 0. Of kinds 1 to 5 that is kind 5
+-- a kind that has augmentation, by its entry in the table: its TC can be more than 0. Of kinds 1 to 6 these are 5 and 6
 abbrev pub isAugmented : Entry → Bool
 isAugmented e = not (eqb (e .most) 0)
 

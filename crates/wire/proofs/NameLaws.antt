@@ -1,7 +1,7 @@
 -- What the last octets name is right: each legal row is named by the octets that it ends in, and what is named ends in them. Both are
 -- tests over all kinds and octets, which antt computes.
 use mathlib.Core.Path.{_≡_}
-use mathlib.Core.Bool.{Bool, false, _&&_}
+use mathlib.Core.Bool.{Bool, false, not, _&&_}
 use mathlib.Core.List.{List, [], _∷_}
 use Prim.Native.Nat.{ℕ, suc, _-_, _<_}
 use native.Mathlib.Omega.{arith}
@@ -59,9 +59,9 @@ legal-is x h = record {
   most = leb→le _ _ (second (leb (table (x .kind) .least) (x .tc)) (leb (x .tc) (table (x .kind) .most)) h);
 }
 
--- a number from 1 to 8
+-- a number from 1 to 8, but not 5, which is no longer given
 abbrev pub refusal : ℕ → Bool
-refusal n = leb 1 n && leb n 8
+refusal n = leb 1 n && (leb n 8 && not (eqb n 5))
 
 -- the row x, whose count is cs, ends in the octet y, which is below 255
 abbrev pub endsIn : ℕ → Row → List ℕ → Bool

@@ -1,23 +1,36 @@
--- What ranges the walk's answers keep to: refusals 1 to 8 at places 1 to 1,400; at most 200 frames.
-use mathlib.Core.Path.{_≡_, ap, subst}
+-- What ranges the walk's answers keep to: refusals 1 to 8 but not 5, at places 1 to 1,400; at most 200 frames.
+use mathlib.Core.Path.{_≡_, sym, ap, _∙_, subst}
 use mathlib.Core.Logic.{_⊎_, inl, inr}
 use mathlib.Core.List.{List, [], _∷_}
-use Prim.Native.Nat.{ℕ, suc, _+_, _*_, _≤_}
+use Prim.Native.Nat.{ℕ, suc, _+_, _*_, _≤_, _<_}
 use native.Mathlib.Omega.{arith}
 use lib.ListN.{length}
 use Rattle.octets.specs.Octet.{Octets}
 use Rattle.wire.specs.Frame.{Frame, rate, wireOctets, sumOf, rowsOf, OfRate, Legal}
-use Rattle.wire.specs.Walk.{readOf, refused}
+use Rattle.wire.specs.Walk.{ending, readOf, refused}
 use Rattle.wire.specs.declared.Row.{Row}
+use Rattle.wire.specs.declared.Ending.the-variants.{Refused}
+use Rattle.octets.proofs.Order.{below-or}
 use Rattle.wire.proofs.TableLaws.{bounds, coder-octets}
 use Rattle.wire.proofs.Rates.{either}
-use Rattle.wire.proofs.WholeFrame.{Numbered}
+use Rattle.wire.proofs.Endings.{ending-none}
+use Rattle.wire.proofs.WholeFrame.{Numbered, Shows, ending-shows}
 use Rattle.wire.proofs.Complete.{length-rows}
 use Rattle.wire.proofs.Sound.{Kept, read-kept}
 
 -- a refusal's number and place
 pub in-range : (p : List ℕ) (n place : ℕ) (behind : List Frame) → Octets p → readOf p ≡ refused n place behind → Numbered n × (1 ≤ place) × (place ≤ 1400)
 in-range p n place behind o e = subst (Kept p) e (read-kept p o)
+
+-- the number of what unread octets are refused by for their end
+pub end-in-range : (p : List ℕ) (u n : ℕ) → Octets p → ending p u ≡ Refused n → Numbered n
+end-in-range p u n o e = go (below-or 0 u)
+  where
+    go : (0 < u) ⊎ (u ≤ 0) → Numbered n
+    go (inl h) = subst (Shows p u) e (ending-shows p u o h)
+    go (inr h) =
+        let q : Refused 2 ≡ Refused n = sym (ending-none p u (omega arith)) ∙ e in
+        let z : 2 ≡ n = cc in (omega arith, omega arith, λ f. omega arith)
 
 -- each frame but comfort noise, which is last, has seven octets or more
 rows-octets : (r : ℕ) (xs : List Row) → OfRate r xs → 7 * length xs ≤ sumOf wireOctets xs + 5

@@ -84,7 +84,7 @@ module _ (p : List ℕ) (u : ℕ) (x : Row) (o : Octets p) (inside : u ≤ lengt
 
 -- ---- the walk
 
--- what is read so far gives the octets behind the unread ones, and is legal; a refusal is one of 1 to 8 within 1,400 octets
+-- what is read so far gives the octets behind the unread ones, and is legal; a refusal is one of 1 to 8 but not 5, within 1,400 octets
 pub record ReadSoFar (p : List ℕ) (u : ℕ) (behind : List Frame) : Type 0 where
   pub inside : u ≤ length p
   pub gives : octetsOf behind ≡ drop u p
@@ -133,7 +133,7 @@ unfolding readOf
 read-kept p o = go (below-or 1400 (length p))
   where
     go : (1400 < length p) ⊎ (length p ≤ 1400) → Kept p (readOf p)
-    go (inl h) = simp (lt-ltb 1400 (length p) h) ((omega arith, omega arith), omega arith, omega arith)
+    go (inl h) = simp (lt-ltb 1400 (length p) h) ((omega arith, omega arith, λ e. omega arith), omega arith, omega arith)
     go (inr h) = simp (le-ltb 1400 (length p) h) (run-kept p o h)
 
 -- a payload that is accepted has at most 1,400 octets

@@ -11,9 +11,9 @@ use lib.Dec.{T, leb, eqb, leb→le, eqb→eq}
 use lib.ListN.{length}
 use Rattle.wire.specs.Frame.{kinds, table, lookUp, kindOf, isShort, countIn}
 use Rattle.wire.specs.declared.Kind.{Kind}
-use Rattle.wire.specs.declared.Kind.the-variants.{Bps2400, Bps1200, Bps600, ComfortNoise, Tsvcis}
+use Rattle.wire.specs.declared.Kind.the-variants.{Bps2400, Bps1200, Bps600, ComfortNoise, Tsvcis, TsvcisLong}
 use Rattle.wire.specs.declared.Counting.{Counting}
-use Rattle.wire.specs.declared.Counting.the-variants.{Uncounted, ShortOrLong}
+use Rattle.wire.specs.declared.Counting.the-variants.{Uncounted, ShortOrLong, Long}
 
 -- ---- tests
 
@@ -34,6 +34,7 @@ kind-of Bps1200 = refl
 kind-of Bps600 = refl
 kind-of ComfortNoise = refl
 kind-of Tsvcis = refl
+kind-of TsvcisLong = refl
 
 pub same-number : (j k : Kind) → table j .number ≡ table k .number → j ≡ k
 same-number j k e = let q : some j ≡ some k = sym (kind-of j) ∙ ap kindOf e ∙ kind-of k in cc
@@ -93,6 +94,7 @@ count-most ShortOrLong t = go (isShort t)
     go : (b : Bool) → length (cond b ((192 + (t - 15)) ∷ []) (t ∷ 255 ∷ [])) ≤ 2
     go true = omega arith
     go false = omega arith
+count-most Long t = omega arith
 
 -- a coder frame has at least seven octets
 pub coder-octets : (k : Kind) → (table k .rate ≡ 0 → ⊥) → 7 ≤ table k .octets

@@ -1,13 +1,14 @@
--- What the walk's step says of the octets that it looked at: the frame that it names is whole and legal, and a refusal is one of 1 to 8.
+-- What the walk's step says of the octets that it looked at: the frame that it names is whole and legal, and a refusal is one of 1 to 8
+-- but not 5.
 use mathlib.Core.Path.{_≡_, refl, sym, ap, _∙_}
 use mathlib.Core.Logic.{_⊎_, inl, inr}
-use mathlib.Core.Bool.{Bool, true, false, cond}
+use mathlib.Core.Bool.{Bool, true, false, cond, not, _&&_}
 use mathlib.Core.List.{List, [], _∷_}
 use Prim.Native.Nat.{ℕ, zero, suc, _+_, _-_, _≤_, _<_}
 use native.Mathlib.Omega.{arith}
 use lib.Dec.{T, leb, ltb, eqb, leb→le, eqb→eq}
 use lib.ListN.{length, getD}
-use borrow.Author.Tests.{ltb-false}
+use borrow.Author.Tests.{ltb-false, eq-eqb}
 use Rattle.octets.specs.Octet.{Octets}
 use Rattle.wire.specs.Frame.{LegalRow, base, code, top, rate, countOf, bodyOctets, wireOctets}
 use Rattle.wire.specs.Walk.{named, counted, ending, whole, lastFrame, beside}
@@ -19,12 +20,17 @@ use Rattle.wire.proofs.TableLaws.{first, second, bounds}
 use Rattle.wire.proofs.NameLaws.{legal, legal-is, refusal, endsIn, nameHolds, named-holds, endsLong, longNameHolds, counted-holds}
 use Rattle.wire.proofs.Endings.{ending-one, ending-two, ending-alone}
 
--- a refusal's number
+-- a refusal's number: 1 to 8, but not 5
 abbrev pub Numbered : ℕ → Type 0
-Numbered n = (1 ≤ n) × (n ≤ 8)
+Numbered n = (1 ≤ n) × (n ≤ 8) × (n ≡ 5 → ⊥)
 
 numbered : (n : ℕ) → T (refusal n) → Numbered n
-numbered n h = (leb→le 1 n (first (leb 1 n) (leb n 8) h), leb→le n 8 (second (leb 1 n) (leb n 8) h))
+numbered n h =
+    let r = second (leb 1 n) (leb n 8 && not (eqb n 5)) h in (
+      leb→le 1 n (first (leb 1 n) (leb n 8 && not (eqb n 5)) h),
+      leb→le n 8 (first (leb n 8) (not (eqb n 5)) r),
+      λ e. simp (eq-eqb n 5 e) at (second (leb n 8) (not (eqb n 5)) r),
+    )
 
 -- ---- what the end of the unread octets shows of the frame
 
@@ -34,7 +40,7 @@ pub record Shown (p : List ℕ) (u : ℕ) (x : Row) : Type 0 where
   pub coded : wireOctets x ≤ u → code x ≤ getD p (u - wireOctets x + (base x - 1)) 0
   pub count : wireOctets x ≤ u → (i : ℕ) → i < length (countOf x) → getD p (u - wireOctets x + (bodyOctets x + i)) 0 ≡ getD (countOf x) i 0
 
-abbrev Shows : List ℕ → ℕ → Ending → Type 0
+abbrev pub Shows : List ℕ → ℕ → Ending → Type 0
 Shows p u (Refused n) = Numbered n
 Shows p u (Names x) = Shown p u x
 
@@ -95,7 +101,7 @@ module _ (p : List ℕ) (u : ℕ) where
   shows-two t q r (Refused n) h = numbered n h
   shows-two t q r (Names x) h = shown-two t q r x (legal-is x (first (legal x) _ h)) (countOf x) refl (second (legal x) (endsLong t x (countOf x)) h)
 
-  ending-shows : Octets p → 1 ≤ u → Shows p u (ending p u)
+  pub ending-shows : Octets p → 1 ≤ u → Shows p u (ending p u)
   ending-shows o h = go (below-or (getD p (u - 1) 0) 255) (below-or 1 u)
     where
       go : (getD p (u - 1) 0 < 255) ⊎ (255 ≤ getD p (u - 1) 0) → (1 < u) ⊎ (u ≤ 1) → Shows p u (ending p u)
@@ -103,7 +109,7 @@ module _ (p : List ℕ) (u : ℕ) where
       go (inr a) (inl w) =
           let e : getD p (u - 1) 0 ≡ 255 = omega (arith, o (u - 1)) in
           rw (ending-two p u (getD p (u - 2) 0) w a refl) (shows-two (getD p (u - 2) 0) e refl (counted (getD p (u - 2) 0)) (counted-holds (getD p (u - 2) 0) (o (u - 2))))
-      go (inr a) (inr w) = rw (ending-alone p u (omega arith) a) (omega arith, omega arith)
+      go (inr a) (inr w) = rw (ending-alone p u (omega arith) a) (omega arith, omega arith, λ e. omega arith)
 
 -- ---- a whole frame
 
@@ -126,8 +132,8 @@ whole-says p u (Names x) s = go (ltb u (wireOctets x)) refl (ltb (code x + top x
   where
     go : (a : Bool) → ltb u (wireOctets x) ≡ a → (b : Bool) → ltb (code x + top x) (getD p (u - wireOctets x + (base x - 1)) 0) ≡ b
         → Wholes p u (cond a (Refused 2) (cond b (Refused 7) (Names x)))
-    go true d b e = (omega arith, omega arith)
-    go false d true e = (omega arith, omega arith)
+    go true d b e = (omega arith, omega arith, λ e. omega arith)
+    go false d true e = (omega arith, omega arith, λ e. omega arith)
     go false d false e =
         let room = ltb-false u (wireOctets x) d in
         record { legal = s .legal; room = room; low = s .coded room; high = ltb-false _ _ e; count = s .count room }
@@ -144,7 +150,7 @@ beside-keeps p u n r (Names x) w = go (eqb (rate x) 0) (eqb n 0) (eqb r 0) (eqb 
   where
     go : (a b c d : Bool) → Wholes p u (cond a (cond b (Names x) (Refused 6)) (cond c (Names x) (cond d (Names x) (Refused 8))))
     go true true c d = w
-    go true false c d = (omega arith, omega arith)
+    go true false c d = (omega arith, omega arith, λ e. omega arith)
     go false b true d = w
     go false b false true = w
-    go false b false false = (omega arith, omega arith)
+    go false b false false = (omega arith, omega arith, λ e. omega arith)

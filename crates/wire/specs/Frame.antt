@@ -9,15 +9,15 @@ use lib.Dec.{leb, eqb}
 use lib.ListN.{length, getD, set}
 use Rattle.octets.specs.Octet.{Octets}
 use Rattle.wire.specs.declared.Kind.{Kind}
-use Rattle.wire.specs.declared.Kind.the-variants.{Bps2400, Bps1200, Bps600, ComfortNoise, Tsvcis}
+use Rattle.wire.specs.declared.Kind.the-variants.{Bps2400, Bps1200, Bps600, ComfortNoise, Tsvcis, TsvcisLong}
 use Rattle.wire.specs.declared.Counting.{Counting}
-use Rattle.wire.specs.declared.Counting.the-variants.{Uncounted, ShortOrLong}
+use Rattle.wire.specs.declared.Counting.the-variants.{Uncounted, ShortOrLong, Long}
 use Rattle.wire.specs.declared.Entry.{Entry}
 use Rattle.wire.specs.declared.Row.{Row}
 
 -- the kinds, in the order of their numbers
 abbrev pub kinds : List Kind
-kinds = Bps2400 ∷ Bps1200 ∷ Bps600 ∷ ComfortNoise ∷ Tsvcis ∷ []
+kinds = Bps2400 ∷ Bps1200 ∷ Bps600 ∷ ComfortNoise ∷ Tsvcis ∷ TsvcisLong ∷ []
 
 -- a kind without augmentation: its number, the octets of its frame, the rate code bits that the wire adds to their last one and the
 -- most that the body has there, its bits a second
@@ -28,13 +28,14 @@ plainEntry n o c t r = record { number = n; octets = o; code = c; top = t; rate 
 abbrev pub augmentedEntry : ℕ → ℕ → ℕ → Counting → Entry
 augmentedEntry n l m c = record { number = n; octets = 7; code = 0; top = 63; rate = 2400; least = l; most = m; counting = c }
 
--- the table "The five frames on the wire"; "Its last octet is at most 63, 1, 63 and 31 for kinds 1 to 4"; comfort noise has no rate
+-- the table "The five frames on the wire", and kind 6; "Its last octet is at most 63, 1, 63 and 31 for kinds 1 to 4"; comfort noise has no rate
 abbrev pub table : Kind → Entry
 table Bps2400 = plainEntry 1 7 0 63 2400
 table Bps1200 = plainEntry 2 11 128 1 1200
 table Bps600 = plainEntry 3 7 64 63 600
 table ComfortNoise = plainEntry 4 2 160 31 0
 table Tsvcis = augmentedEntry 5 1 255 ShortOrLong
+table TsvcisLong = augmentedEntry 6 15 77 Long
 
 -- the kind of a number, looked up among kinds
 abbrev pub lookUp : ℕ → List Kind → Option Kind
@@ -45,14 +46,16 @@ lookUp n (k ∷ ks) = cond (eqb (table k .number) n) (some k) (lookUp n ks)
 abbrev pub kindOf : ℕ → Option Kind
 kindOf n = lookUp n kinds
 
--- the TC for which the short count is the legal one
+-- the TC that a short count can say
 abbrev pub isShort : ℕ → Bool
 isShort t = leb 15 t && leb t 77
 
--- "count": none, or "Short count: one octet 192 + (TC - 15), for TC 15 to 77", else "Long count: the octet TC, then 255"
+-- "count": none; "Short count: one octet 192 + (TC - 15), for TC 15 to 77", else "Long count: the octet TC, then 255"; the long count
+-- for every TC
 unfoldable pub countIn : Counting → ℕ → List ℕ
 countIn Uncounted t = []
 countIn ShortOrLong t = cond (isShort t) ((192 + (t - 15)) ∷ []) (t ∷ 255 ∷ [])
+countIn Long t = t ∷ 255 ∷ []
 
 -- "2400, 1200, 600", and no other number
 unfoldable pub isRate : ℕ → Bool
@@ -100,7 +103,7 @@ bodyOctets x = base x + x .tc
 abbrev pub wireOctets : Row → ℕ
 wireOctets x = bodyOctets x + length (countOf x)
 
--- "TC (0 for kinds 1 to 4)", "1 to 255"
+-- "TC (0 for kinds 1 to 4)", "1 to 255" of kind 5, "TC 15 to 77" of kind 6
 pub record LegalRow (x : Row) : Type 0 where
   pub least : table (x .kind) .least ≤ x .tc
   pub most : x .tc ≤ table (x .kind) .most
@@ -111,7 +114,7 @@ sumOf f [] = 0
 sumOf f (x ∷ xs) = f x + sumOf f xs
 
 -- what may stand before others in a sequence of rate r, by its own rate: comfort noise, which has none, before nothing; "coder
--- frames (kinds 1, 2, 3, 5) of one rate"
+-- frames (kinds 1, 2, 3, 5) of one rate", and "kind 6, rate 2400"
 abbrev pub Stands : ℕ → ℕ → List Row → Type 0
 Stands r zero behind = behind ≡ []
 Stands r (suc s) behind = suc s ≡ r

@@ -5,9 +5,9 @@ use mathlib.Core.List.{List, [], _∷_}
 use Prim.Native.Nat.{ℕ, zero, suc, _+_, _-_}
 use lib.Dec.{ltb, eqb}
 use lib.ListN.{length, getD, set, take, drop}
-use Rattle.refusal.specs.Numbers.{tooLong, frameCut, reservedBits, longCountZero, longCountShortRange, comfortNoiseNotLast, augmentationNot2400, ratesMixed}
+use Rattle.refusal.specs.Numbers.{tooLong, frameCut, reservedBits, longCountZero, comfortNoiseNotLast, augmentationNot2400, ratesMixed}
 use Rattle.wire.specs.Frame.{Frame, row, base, code, top, rate, isShort, bodyOctets, wireOctets, rowsOf}
-use Rattle.wire.specs.declared.Kind.the-variants.{Bps2400, Bps1200, Bps600, ComfortNoise, Tsvcis}
+use Rattle.wire.specs.declared.Kind.the-variants.{Bps2400, Bps1200, Bps600, ComfortNoise, Tsvcis, TsvcisLong}
 use Rattle.wire.specs.declared.Row.{Row}
 use Rattle.wire.specs.declared.Ending.{Ending}
 use Rattle.wire.specs.declared.Ending.the-variants.{Refused, Names}
@@ -21,9 +21,9 @@ named x =
     (cond (ltb x 160) (Refused reservedBits)
     (cond (ltb x 192) (Names (row ComfortNoise 0)) (Names (row Tsvcis (15 + (x - 192))))))))
 
--- what the octet before a last octet of 255 names; 4 and 5
+-- what the octet before a last octet of 255 names; 4
 unfoldable pub counted : ℕ → Ending
-counted t = cond (eqb t 0) (Refused longCountZero) (cond (isShort t) (Refused longCountShortRange) (Names (row Tsvcis t)))
+counted t = cond (eqb t 0) (Refused longCountZero) (cond (isShort t) (Names (row TsvcisLong t)) (Names (row Tsvcis t)))
 
 -- what the last of u unread octets names; 2 "if it is 255 and stands alone", and where nothing is unread
 unfoldable pub ending : List ℕ → ℕ → Ending

@@ -18,6 +18,7 @@ pub enum Kind {
     Bps600,
     ComfortNoise,
     Tsvcis,
+    TsvcisLong,
 }
 
 // The kind of a number in a row, if it is one.
@@ -26,10 +27,11 @@ pub enum Known {
     Is(Kind),
 }
 
-// How a frame's TC is counted behind its body: not at all; in one octet where that is long enough, else in two.
+// How a frame's TC is counted behind its body: not at all; in one octet where that is long enough, else in two; always in two.
 pub enum Counting {
     Uncounted,
     ShortOrLong,
+    Long,
 }
 
 // A kind's numbers: its number in a row; the octets of its base, the rate code bits in their last one and the most that the body has
@@ -130,6 +132,7 @@ pub fn entry_of(kind: Kind) -> Entry
         Kind::Bps600 => plain(3, 7, 64, 63, 600),
         Kind::ComfortNoise => plain(4, 2, 160, 31, 0),
         Kind::Tsvcis => augmented(5, 1, 255, Counting::ShortOrLong),
+        Kind::TsvcisLong => augmented(6, 15, 77, Counting::Long),
     }
 }
 
@@ -143,6 +146,7 @@ pub fn kind_of(number: u16) -> Known
         3 => Known::Is(Kind::Bps600),
         4 => Known::Is(Kind::ComfortNoise),
         5 => Known::Is(Kind::Tsvcis),
+        6 => Known::Is(Kind::TsvcisLong),
         _ => Known::Unknown,
     }
 }
@@ -154,6 +158,7 @@ fn count_octets(counting: Counting, tc: usize) -> usize
     match counting {
         Counting::Uncounted => 0,
         Counting::ShortOrLong => short_or_long(tc),
+        Counting::Long => 2,
     }
 }
 
@@ -260,7 +265,10 @@ fn long_count(tc: u8) -> Ending
         });
     }
     if tc < 78 {
-        return Ending::Refused(refusal::LONG_COUNT_SHORT_RANGE);
+        return Ending::Names(Row {
+            kind: Kind::TsvcisLong,
+            tc: tc as u16,
+        });
     }
     Ending::Names(Row {
         kind: Kind::Tsvcis,

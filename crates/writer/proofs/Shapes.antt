@@ -15,7 +15,7 @@ use Rattle.octets.proofs.Parts.{part-copied}
 use Rattle.wire.specs.Frame.{base, code, countIn, countOf, bodyOctets, wireOctets, wireOf}
 use Rattle.wire.specs.Answers.{shapeOf}
 use Rattle.wire.specs.declared.Counting.{Counting}
-use Rattle.wire.specs.declared.Counting.the-variants.{Uncounted, ShortOrLong}
+use Rattle.wire.specs.declared.Counting.the-variants.{Uncounted, ShortOrLong, Long}
 use Rattle.wire.specs.declared.Row.{Row}
 use Rattle.wire.specs.declared.Shape.{Shape}
 use Rattle.wire.proofs.TableLaws.{bounds, count-most}
@@ -50,6 +50,7 @@ count-is ShortOrLong t = go (leb 15 t) refl (leb t 77) refl
     go true p true q =
         let e : 192 + (t - 15) ≡ t + 177 = omega (arith, leb-true 15 t p) in
         rw (p, q) (ap (λ (v : ℕ). v ∷ []) e, λ z. leb-true t 77 q)
+count-is Long t = (refl, λ e. absurd (omega arith))
 
 module _ (d : List ℕ) (a t c : ℕ) (fits : CountFits (length d) a t c) where
   pub count-none : c ≡ 0 → d ≡ paste d a (countBy c t) c

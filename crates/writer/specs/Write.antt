@@ -17,7 +17,7 @@ abbrev pub framesOf : List Row → List ℕ → List Frame
 framesOf [] bs = []
 framesOf (x ∷ xs) bs = record { row = x; body = take (bodyOctets x) bs } ∷ framesOf xs (drop (bodyOctets x) bs)
 
--- "the first bad body end", where the first of these bodies starts at a; "the end of a kind 5 body is its seventh octet"
+-- "the first bad body end", where the first of these bodies starts at a; "the end of a kind 5 body is its seventh octet", and of kind 6 as well
 abbrev pub badEnd : ℕ → List Frame → BadEnd
 badEnd a [] = Nowhere
 badEnd a (f ∷ fs) =

@@ -26,8 +26,11 @@ numbered! {
         Rate600 = 3, "600 bps";
         /// Comfort noise.
         ComfortNoise = 4, "comfort noise";
-        /// A 2400 bps frame with TC octets of augmentation, which end its body.
+        /// A 2400 bps frame with TC octets of augmentation, which end its body. On the wire its count
+        /// is short for TC 15 to 77.
         Tsvcis = 5, "TSVCIS";
+        /// The same for TC 15 to 77, with a long count on the wire.
+        TsvcisLong = 6, "TSVCIS with a long count";
     }
 }
 
@@ -46,6 +49,7 @@ impl fmt::Display for Kind {
 /// ```
 /// use moult::{Kind, body_octets};
 /// assert_eq!(body_octets(Kind::Tsvcis, 35), Some(42));
+/// assert_eq!(body_octets(Kind::TsvcisLong, 78), None);
 /// assert_eq!(body_octets(Kind::Rate2400, 35), None);
 /// ```
 pub fn body_octets(kind: Kind, tc: u16) -> Option<usize> {

@@ -68,8 +68,8 @@ pub fn count(payload: &[u8]) -> Result<usize, Reason> {
 /// # Errors
 ///
 /// In this order: `TooLong`; from the last frame to the first, for each, `FrameCut` (255 alone),
-/// `LongCountZero`, `LongCountShortRange`, `ReservedBits`, `FrameCut`, `ComfortNoiseNotLast`,
-/// `AugmentationNot2400`, `RatesMixed`; `NumbersTooShort`, `OctetsTooShort`.
+/// `LongCountZero`, `ReservedBits`, `FrameCut`, `ComfortNoiseNotLast`, `AugmentationNot2400`,
+/// `RatesMixed`; `NumbersTooShort`, `OctetsTooShort`.
 pub fn read(payload: &[u8], rows: &mut [u16], bodies: &mut [u8]) -> Result<Reading, Refusal> {
     let read = ffi::read(payload, rows, bodies);
     let reading = Reading {

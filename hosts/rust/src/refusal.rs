@@ -29,7 +29,8 @@ numbered! {
         ReservedBits = 3, "reserved or foreign bits set";
         /// A long count is 0. Place: unread.
         LongCountZero = 4, "long count is 0";
-        /// A long count is 15 to 77. Place: unread.
+        /// No longer given: a long count of 15 to 77 makes a
+        /// [`Kind::TsvcisLong`](crate::Kind::TsvcisLong).
         LongCountShortRange = 5, "long count of 15 to 77";
         /// Comfort noise is not last. Place: unread; writer: row, from 0.
         ComfortNoiseNotLast = 6, "comfort noise not last";

@@ -26,7 +26,6 @@ fn of_the_reader() {
     says(&[0; 6], "refusal 2: frame cut at the front", 6);
     says(&[0x82], "refusal 3: reserved or foreign bits set", 1);
     says(&[0, 255], "refusal 4: long count is 0", 2);
-    says(&[15, 255], "refusal 5: long count of 15 to 77", 2);
     says(&[0, 160, 0, 160], "refusal 6: comfort noise not last", 2);
     let bad_base = [64, 64, 64, 64, 64, 64, 64, 0, 1, 255];
     let words = "refusal 7: augmentation not behind a 2400 bps frame";

@@ -67,9 +67,22 @@ pub const TSVCIS: Kind = Kind {
     code: 0,
     tc: (1, 255),
 };
+/// Its count is long where it could be short.
+pub const TSVCIS_LONG: Kind = Kind {
+    number: 6,
+    tc: (15, 77),
+    ..TSVCIS
+};
 
 /// In the order of their numbers, from 1.
-const KINDS: [Kind; 5] = [PLAIN_2400, PLAIN_1200, PLAIN_600, COMFORT_NOISE, TSVCIS];
+const KINDS: [Kind; 6] = [
+    PLAIN_2400,
+    PLAIN_1200,
+    PLAIN_600,
+    COMFORT_NOISE,
+    TSVCIS,
+    TSVCIS_LONG,
+];
 
 /// Augmentation that a short count can tell.
 const SHORT: RangeInclusive<u16> = 15..=77;
@@ -100,7 +113,7 @@ impl Kind {
     pub fn count_octets(self, tc: u16) -> usize {
         match tc {
             0 => 0,
-            tc if SHORT.contains(&tc) => 1,
+            tc if SHORT.contains(&tc) && self.number == TSVCIS.number => 1,
             _ => 2,
         }
     }

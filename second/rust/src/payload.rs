@@ -2,11 +2,10 @@
 //! to the first, then a second one that fills.
 
 use crate::MAX_OCTETS;
-use crate::kinds::{COMFORT_NOISE, Kind, PLAIN_600, PLAIN_1200, PLAIN_2400, TSVCIS};
+use crate::kinds::{COMFORT_NOISE, Kind, PLAIN_600, PLAIN_1200, PLAIN_2400, TSVCIS, TSVCIS_LONG};
 use crate::refusal::{
-    AUGMENTATION_NOT_2400, COMFORT_NOISE_NOT_LAST, FRAME_CUT, LONG_COUNT_SHORT_RANGE,
-    LONG_COUNT_ZERO, NUMBERS_TOO_SHORT, OCTETS_TOO_SHORT, RATES_MIXED, RESERVED_BITS, Refusal,
-    TOO_LONG, refuse,
+    AUGMENTATION_NOT_2400, COMFORT_NOISE_NOT_LAST, FRAME_CUT, LONG_COUNT_ZERO, NUMBERS_TOO_SHORT,
+    OCTETS_TOO_SHORT, RATES_MIXED, RESERVED_BITS, Refusal, TOO_LONG, refuse,
 };
 
 /// A frame as its last octets name it.
@@ -29,11 +28,11 @@ fn plain(kind: Kind) -> Named {
 
 /// With the octets that its count has.
 #[inline]
-fn augmented(tc: u8, count: usize) -> Named {
+fn augmented(kind: Kind, tc: u8, count: usize) -> Named {
     Named {
-        kind: TSVCIS,
+        kind,
         tc: tc.into(),
-        wire: TSVCIS.base + usize::from(tc) + count,
+        wire: kind.base + usize::from(tc) + count,
     }
 }
 
@@ -47,11 +46,11 @@ pub(crate) fn name(unread: &[u8], last: u8) -> Result<Named, u32> {
         128..=129 => Ok(plain(PLAIN_1200)),
         130..=159 => Err(RESERVED_BITS),
         160..=191 => Ok(plain(COMFORT_NOISE)),
-        192..=254 => Ok(augmented(last - 192 + 15, 1)),
+        192..=254 => Ok(augmented(TSVCIS, last - 192 + 15, 1)),
         255 => match unread {
             [.., 0, _] => Err(LONG_COUNT_ZERO),
-            [.., 15..=77, _] => Err(LONG_COUNT_SHORT_RANGE),
-            [.., tc, _] => Ok(augmented(*tc, 2)),
+            [.., tc @ 15..=77, _] => Ok(augmented(TSVCIS_LONG, *tc, 2)),
+            [.., tc, _] => Ok(augmented(TSVCIS, *tc, 2)),
             _ => Err(FRAME_CUT),
         },
     }
@@ -72,7 +71,7 @@ fn step(unread: &[u8], last: u8, later: usize, rate: u32) -> Result<Named, u32> 
             Ok(frame)
         };
     }
-    if frame.tc != 0 && unread[start + TSVCIS.base - 1] > TSVCIS.end {
+    if frame.tc != 0 && unread[start + frame.kind.base - 1] > frame.kind.end {
         return Err(AUGMENTATION_NOT_2400);
     }
     if rate != 0 && rate != frame.kind.rate {

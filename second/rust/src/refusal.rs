@@ -4,7 +4,6 @@ pub const TOO_LONG: u32 = 1;
 pub const FRAME_CUT: u32 = 2;
 pub const RESERVED_BITS: u32 = 3;
 pub const LONG_COUNT_ZERO: u32 = 4;
-pub const LONG_COUNT_SHORT_RANGE: u32 = 5;
 pub const COMFORT_NOISE_NOT_LAST: u32 = 6;
 pub const AUGMENTATION_NOT_2400: u32 = 7;
 pub const RATES_MIXED: u32 = 8;

@@ -23,11 +23,14 @@ returns-5 : tie.Need-returns-5
 returns-5 c = record { answer = rw (c .match .keys5); numbers = rw (c .match .keys5) }
 
 returns-6 : tie.Need-returns-6
-returns-6 c =
+returns-6 c = record { answer = rw (c .match .keys6); numbers = rw (c .match .keys6) }
+
+returns-7 : tie.Need-returns-7
+returns-7 c =
     let n = c .before .args .number in
     let none-of : kindOf n ≡ none =
-    simp (ne-eqb 1 n (λ e. omega arith), ne-eqb 2 n (λ e. omega arith), ne-eqb 3 n (λ e. omega arith), ne-eqb 4 n (λ e. omega arith), ne-eqb 5 n (λ e. omega arith)) in
+    simp (ne-eqb 1 n (λ e. omega arith), ne-eqb 2 n (λ e. omega arith), ne-eqb 3 n (λ e. omega arith), ne-eqb 4 n (λ e. omega arith), ne-eqb 5 n (λ e. omega arith), ne-eqb 6 n (λ e. omega arith)) in
     record { answer = rw none-of; numbers = rw none-of }
 
 pub kind-of-spec : {M : Type 1} → statement M
-kind-of-spec = tie.close (tie.spec returns returns-2 returns-3 returns-4 returns-5 returns-6)
+kind-of-spec = tie.close (tie.spec returns returns-2 returns-3 returns-4 returns-5 returns-6 returns-7)

@@ -74,6 +74,13 @@ pub fn frame(kind: u16, tc: u16, prng: &mut Prng) -> Frame {
     Frame { kind, tc, body }
 }
 
+/// A TSVCIS frame, with either count where its TC allows both.
+fn tsvcis(prng: &mut Prng) -> Frame {
+    let tc = tc(prng);
+    let long = second::body_octets(6, tc) > 0 && prng.one_in(2);
+    frame(if long { 6 } else { 5 }, tc, prng)
+}
+
 /// A coder frame of a sequence's shape: all 1200, all 600, all 2400, all TSVCIS, or (4 and up) 2400
 /// and TSVCIS side by side.
 fn coder_frame(shape: usize, prng: &mut Prng) -> Frame {
@@ -81,10 +88,7 @@ fn coder_frame(shape: usize, prng: &mut Prng) -> Frame {
         0 => frame(2, 0, prng),
         1 => frame(3, 0, prng),
         2 => frame(1, 0, prng),
-        3 => {
-            let tc = tc(prng);
-            frame(5, tc, prng)
-        }
+        3 => tsvcis(prng),
         _ => {
             let next = 2 + prng.below(2);
             coder_frame(next, prng)
@@ -161,9 +165,11 @@ pub fn damaged_often(prng: &mut Prng) -> Vec<u8> {
 pub fn mixed(prng: &mut Prng) -> Vec<u8> {
     let mut sequence = vec![];
     for _ in 0..prng.within(1, 6) {
-        let kind = prng.within(1, 5) as u16;
-        let tc = if kind == 5 { tc(prng) } else { 0 };
-        sequence.push(frame(kind, tc, prng));
+        let next = match prng.within(1, 5) {
+            5 => tsvcis(prng),
+            kind => frame(kind as u16, 0, prng),
+        };
+        sequence.push(next);
     }
     octets(&sequence)
 }

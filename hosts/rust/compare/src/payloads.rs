@@ -133,6 +133,7 @@ fn compare_many(seed: u64, cases: usize, make: Make) -> Met {
         let payload = make(&mut prng);
         compare(&payload, &mut met, &mut prng);
     }
+    assert_eq!(met.0[5], 0, "refusal 5 is no longer given");
     met
 }
 
@@ -153,14 +154,13 @@ fn legal() {
 
 #[test]
 fn damaged_once() {
-    compare_many(2, DAMAGED_ONCE, make::damaged_once)
-        .at_least(100, &[0, 2, 3, 4, 5, 6, 7, 8, 9, 10]);
+    compare_many(2, DAMAGED_ONCE, make::damaged_once).at_least(100, &[0, 2, 3, 4, 6, 7, 8, 9, 10]);
 }
 
 #[test]
 fn damaged_often() {
     compare_many(3, DAMAGED_OFTEN, make::damaged_often)
-        .at_least(200, &[0, 2, 3, 4, 5, 6, 7, 8, 9, 10]);
+        .at_least(200, &[0, 2, 3, 4, 6, 7, 8, 9, 10]);
 }
 
 #[test]
@@ -175,7 +175,7 @@ fn clipped() {
 
 #[test]
 fn random() {
-    compare_many(6, RANDOM, make::random).at_least(1000, &[0, 2, 3, 4, 5, 6, 7, 8]);
+    compare_many(6, RANDOM, make::random).at_least(1000, &[0, 2, 3, 4, 6, 7, 8]);
 }
 
 #[test]
@@ -228,20 +228,25 @@ fn shortest() {
     }
 }
 
-/// Every TC with every length of clip at the front, and every last octet behind every such frame.
+/// Every TC and count with every length of clip at the front, and every last octet and octet before
+/// it behind every such frame.
 #[test]
 fn every_count() {
     let mut prng = Prng::new(9);
     let mut met = Met::default();
-    for tc in 1..=255 {
-        let payload = make::octets(&[make::frame(5, tc, &mut prng)]);
+    let short_or_long = (1..=255).map(|tc| (5, tc));
+    let long = (15..=77).map(|tc| (6, tc));
+    for (kind, tc) in short_or_long.chain(long) {
+        let payload = make::octets(&[make::frame(kind, tc, &mut prng)]);
         for cut in 0..payload.len() {
             compare(&payload[cut..], &mut met, &mut prng);
         }
-        for last in 0..=255 {
-            let mut other = payload.clone();
-            *other.last_mut().expect("a frame has octets") = last;
-            compare(&other, &mut met, &mut prng);
+        for at in [payload.len() - 1, payload.len() - 2] {
+            for octet in 0..=255 {
+                let mut other = payload.clone();
+                other[at] = octet;
+                compare(&other, &mut met, &mut prng);
+            }
         }
     }
 }

@@ -47,15 +47,16 @@ fn room(needed: usize, prng: &mut Prng) -> usize {
 
 fn a_kind(prng: &mut Prng) -> u16 {
     match prng.below(10) {
-        0 => prng.pick(&[0, 6, 7, 255, 256, 257, 0x0105, 65535]),
-        _ => prng.within(1, 5) as u16,
+        0 => prng.pick(&[0, 7, 8, 255, 256, 257, 0x0105, 0x0106, 65535]),
+        _ => prng.within(1, 6) as u16,
     }
 }
 
 fn a_tc(kind: u16, prng: &mut Prng) -> u16 {
     match (prng.below(12), kind) {
-        (0, _) => prng.pick(&[0, 1, 255, 256, 257, 270, 512, 65535]),
+        (0, _) => prng.pick(&[0, 1, 14, 78, 255, 256, 257, 270, 271, 512, 65535]),
         (_, 5) => prng.within(1, 255) as u16,
+        (_, 6) => prng.within(15, 77) as u16,
         _ => 0,
     }
 }
@@ -66,7 +67,7 @@ fn damage(rows: &mut Vec<u16>, bodies: &mut Vec<u8>, prng: &mut Prng) {
     match prng.below(10) {
         0 => bodies.insert(place, prng.octet()),
         1 if place < bodies.len() => drop(bodies.remove(place)),
-        2 => rows.insert(2 * row, prng.below(7) as u16),
+        2 => rows.insert(2 * row, prng.below(8) as u16),
         3 | 4 if 2 * row < rows.len() => rows[2 * row] = a_kind(prng),
         5 if 2 * row + 1 < rows.len() => rows[2 * row + 1] = a_tc(rows[2 * row], prng),
         6 | 7 => spoil_an_end(rows, bodies, prng),
@@ -126,7 +127,7 @@ fn random() {
         } else {
             prng.below(6)
         };
-        let one_kind = prng.one_in(2).then(|| prng.within(1, 5) as u16);
+        let one_kind = prng.one_in(2).then(|| prng.within(1, 6) as u16);
         let mut rows = vec![];
         for _ in 0..frames {
             let kind = one_kind.unwrap_or_else(|| a_kind(&mut prng));
@@ -152,14 +153,14 @@ fn random() {
 #[test]
 fn around_the_limits() {
     let mut prng = Prng::new(24);
-    for kind in 1..=5 {
+    for kind in 1..=6 {
         for frames in (120..=130)
             .chain(198..=203)
             .chain(1..=8)
             .chain([65_536, 65_737])
         {
             for tc in [1, 14, 15, 77, 78, 166, 167, 168, 255] {
-                let tc = if kind == 5 { tc } else { 0 };
+                let tc = if kind >= 5 { tc } else { 0 };
                 let rows = [kind, tc].repeat(frames);
                 let bodies = vec![0; (base_octets(kind) + tc as usize) * frames.min(210)];
                 compare(&rows, &bodies, 1400, &mut prng);
@@ -174,16 +175,38 @@ fn around_the_limits() {
     }
 }
 
+/// Every TC up to 300 of both TSVCIS kinds, alone and behind another row.
+#[test]
+fn every_tc() {
+    let mut prng = Prng::new(28);
+    for kind in [5, 6] {
+        for tc in 0..=300 {
+            let bodies = vec![0; 14 + usize::from(tc)];
+            compare(&[kind, tc], &bodies[7..], 1400, &mut prng);
+            compare(&[1, 0, kind, tc], &bodies, 1400, &mut prng);
+            compare(&[3, 0, kind, tc], &bodies, 1400, &mut prng);
+        }
+    }
+}
+
 /// Plain frames and one TSVCIS frame that together come to every total near 1,400, in any order.
 #[test]
 fn totals_around_the_limit() {
     let mut prng = Prng::new(26);
-    for (plain, count) in [(190, 1), (195, 1), (170, 2), (198, 2)] {
+    let shapes = [
+        (5, 190, 1),
+        (5, 195, 1),
+        (5, 170, 2),
+        (5, 198, 2),
+        (6, 190, 2),
+        (6, 195, 2),
+    ];
+    for (kind, plain, count) in shapes {
         for total in 1395..=1405 {
             let tc = total - 7 * plain - 7 - count;
             let mut rows = [1, 0].repeat(plain);
             let at = 2 * prng.below(plain + 1);
-            rows.splice(at..at, [5, tc as u16]);
+            rows.splice(at..at, [kind, tc as u16]);
             let bodies = vec![0; total - count];
             for room in [1394, total - 1, total, 1406] {
                 compare(&rows, &bodies, room, &mut prng);
