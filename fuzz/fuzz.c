@@ -1,6 +1,7 @@
 /* A libFuzzer target: the library beside the second C implementation (tests/c/compare.h). Of an
-   input's first octet the low four bits choose the function, and the highest bit on which side of
-   the lent inputs memory ends: in front (1) or behind (0). The second octet's halves choose the
+   input's first octet the low four bits choose the function, the next three the session of a
+   payload or of rows, and the highest bit on which side of the lent inputs memory ends: in front (1)
+   or behind (0). The second octet's halves choose the
    rooms lent, low half first: 2 is just enough, 1 is one less. The rest is a payload, rows and
    bodies, a setting text, settings, fields, a body, a rate and a number of frames, or a journal or
    what an entry of one is written of. */
@@ -40,14 +41,20 @@ static const uint16_t *take_list(rest *from, size_t n, unsigned wide)
     return list;
 }
 
+/* Not agreed, in which no rate is looked at; agreed, with the two rates and with ones that are not. */
+static const compare_session sessions[8] = {
+    {0, 0},    {1, 2400}, {1, 600}, {0, 2400},
+    {1, 1200}, {2, 2401}, {1, 0},   {UINT32_MAX, UINT32_MAX},
+};
+
 /* How many row numbers there are, in two octets, low first; the numbers; bodies are the rest. */
-static void try_write(rest data, int more, unsigned wide)
+static void try_write(compare_session in, rest data, int more, unsigned wide)
 {
     size_t rows_n = take_number(&data, 2);
     if (rows_n > data.n)
         rows_n = data.n;
     const uint16_t *rows = take_list(&data, rows_n, wide);
-    compare_write(rows, rows_n, data.at, data.n, more);
+    compare_write(in, rows, rows_n, data.at, data.n, more);
     for (size_t i = 0; i + 1 < rows_n; i += 2)
         compare_body_octets(rows[i], rows[i + 1]);
 }
@@ -120,10 +127,11 @@ int LLVMFuzzerTestOneInput(const uint8_t *data, size_t n)
     rest behind = {data + 2, n - 2};
     unsigned high = data[1] / 16;
     int low_more = data[1] % 16 - 2, high_more = (int)high - 2;
+    compare_session in = sessions[data[0] / 16 % 8];
     compare_in_front(data[0] / 128);
     switch (data[0] & 15) {
     case 0:
-        try_write(behind, low_more, high);
+        try_write(in, behind, low_more, high);
         break;
     case 1:
         try_settings_read(behind, low_more);
@@ -147,7 +155,7 @@ int LLVMFuzzerTestOneInput(const uint8_t *data, size_t n)
         try_entry_write(behind, low_more);
         break;
     default:
-        compare_payload(behind.at, behind.n, low_more, high_more);
+        compare_payload(in, behind.at, behind.n, low_more, high_more);
         break;
     }
     return 0;

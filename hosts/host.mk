@@ -64,7 +64,7 @@ host-test: host-c-test host-rust-test vectors-test listing-test make-test instal
 
 SECOND_C := second/c/payload.c second/c/settings.c second/c/fields.c second/c/journal.c
 TEST_HEADERS := include/moult.h second/c/second.h tests/c/check.h tests/c/compare.h
-VECTORS := $(patsubst %,tests/vectors/%.jsonl,payload writer views time settings fields journal)
+VECTORS := $(patsubst %,tests/vectors/%.jsonl,payload writer views session time settings fields journal)
 
 host-c-test: $(addprefix $(HOST_OUT)/,abi_c abi_cxx abi_shared compare vectors vectors_second list)
 	$(HOST_OUT)/abi_c

@@ -88,13 +88,14 @@ enum {
     MOULT_COMFORT_NOISE_NOT_LAST = 6,  /* place: unread; writer: row, from 0 */
     MOULT_AUGMENTATION_NOT_2400 = 7,   /* place: unread */
     MOULT_RATES_MIXED = 8,             /* place: unread (the later frames set the rate); writer:
-                                          row, from 0 (the earlier rows do) */
+                                          row, from 0 (the earlier rows do); in a session with
+                                          framing the agreed rate is set before both */
     MOULT_NUMBERS_TOO_SHORT = 9,       /* number list; place: rows needed (two numbers each), or
                                           fields needed */
     MOULT_OCTETS_TOO_SHORT = 10,       /* octet buffer; place: octets needed */
     MOULT_ODD_ROWS = 11,               /* place: length of the row list */
     MOULT_UNKNOWN = 12,                /* kind, rate or number of frames; place: writer: row, from
-                                          0; else 0 */
+                                          0; else, and for an agreed rate in every call, 0 */
     MOULT_WRONG_TC = 13,               /* place: row, from 0 */
     MOULT_WRONG_LENGTH = 14,           /* place: length needed */
     MOULT_WRONG_SETTINGS = 15,         /* text or settings; place: 0 */
@@ -224,6 +225,31 @@ moult_part moult_augmentation(const uint8_t *payload, size_t n, size_t row);
    at. The part is of the caller's own buffer, so it lives as long as that does. */
 moult_part moult_frame_or(const uint8_t *payload, size_t n, size_t row, const uint8_t *stand_in,
                           size_t stand_in_n);
+
+/* Sessions. Bit 55 (B_55, value 64 in the seventh octet of a 2400 or 600 bps frame) may alternate as
+   an end-to-end framing bit; it then says nothing about the rate. The five functions below are those
+   of the same names without _session in a session: where `agreed` is 0, framing is not agreed,
+   `rate` is not looked at, and they answer as those do. Any other number is agreed, with the rate
+   2400 or 600. Then
+   - a last octet of 0 to 127 is a frame of that rate, kind 1 or 3; its octets are its body as it
+     stands, bit 55 included;
+   - the ends of bodies of kinds 1, 3, 5 and 6 are at most 127, to the reader (7) and the writer (3);
+   - coder frames are all of that rate (8), a frame alone, too: kind 2 has no place then, and at 600
+     neither have kinds 5 and 6.
+   Any other agreed rate is refused 12 with place 0, before all else; the views then answer as for a
+   payload that is refused. All functions that take no session work as not agreed. moult_unpack
+   refuses 3 for a body with bit 55 set, so a host clears that bit before it unpacks. */
+moult_reading moult_read_session(uint32_t agreed, uint32_t rate, const uint8_t *payload, size_t n,
+                                 uint16_t *rows, size_t rows_n, uint8_t *bodies, size_t bodies_n);
+moult_writing moult_write_session(uint32_t agreed, uint32_t rate, const uint16_t *rows,
+                                  size_t rows_n, const uint8_t *bodies, size_t bodies_n,
+                                  uint8_t *out, size_t out_n);
+moult_ticks moult_packet_ticks_session(uint32_t agreed, uint32_t rate, const uint8_t *payload,
+                                       size_t n);
+moult_part moult_augmentation_session(uint32_t agreed, uint32_t rate, const uint8_t *payload,
+                                      size_t n, size_t row);
+moult_part moult_frame_or_session(uint32_t agreed, uint32_t rate, const uint8_t *payload, size_t n,
+                                  size_t row, const uint8_t *stand_in, size_t stand_in_n);
 
 /* Reads a setting text of n octets, such as "bitrate=2400,600;tcmax=101" (no closing NUL): what
    stands behind "a=fmtp:97 ". A missing bitrate means 2400 only, a missing tcmax 35, so the empty

@@ -1,5 +1,6 @@
 /* Reader, writer, count, times and views: a walk from the end, then a second pass that fills;
-   nothing is written before all checks have passed. */
+   nothing is written before all checks have passed. What differs by session is written once, over
+   the rate agreed: each function without a session is the same with a rate that is known to be 0. */
 #include "second.h"
 
 #include <string.h>
@@ -22,6 +23,37 @@ static const kind_row kinds[] = {
     [MOULT_KIND_TSVCIS] = {2400, 7, 63, 0, 1, 255},
     [MOULT_KIND_TSVCIS_LONG] = {2400, 7, 63, 0, 15, 77},
 };
+
+/* ---- sessions: the rate agreed, 2400 or 600; 0 where framing is not agreed */
+
+#define ONE_FOR_ALL_SESSIONS static inline __attribute__((always_inline))
+
+/* The compiler lays out a function before it knows the session: it shall do so for not agreed. */
+#define FRAMED(agreed) __builtin_expect_with_probability((agreed) != 0, 0, 1.0)
+
+static inline int is_session(uint32_t agreed, uint32_t rate)
+{
+    return !agreed || rate == 2400 || rate == 600;
+}
+
+static inline uint32_t rate_agreed(uint32_t agreed, uint32_t rate)
+{
+    return agreed ? rate : 0;
+}
+
+/* What a kind fixes in a session. Bit 55 has the value 64 in the last octet of a base of seven
+   octets; where framing is agreed it is the sender's, and stays in the body. */
+static inline kind_row kind_in(uint32_t agreed, uint16_t kind)
+{
+    kind_row k = kinds[kind];
+    if (FRAMED(agreed) && k.base == 7) {
+        k.end = 127;
+        k.code = 0;
+    }
+    return k;
+}
+
+/* ---- rows */
 
 static inline int is_kind(uint16_t kind)
 {
@@ -73,29 +105,29 @@ typedef struct {
     uint32_t code;
 } frame;
 
-static inline frame frame_of(uint16_t kind, size_t tc, size_t count)
+static inline frame frame_of(uint32_t agreed, uint16_t kind, size_t tc, size_t count)
 {
-    kind_row k = kinds[kind];
+    kind_row k = kind_in(agreed, kind);
     frame f = {kind, tc, k.base, k.base + tc + count, k.rate, k.code};
     return f;
 }
 
 /* Names the frame that ends at `unread`; gives 0 or the refusal number. */
-static inline uint32_t name(const uint8_t *p, size_t unread, frame *f)
+ONE_FOR_ALL_SESSIONS uint32_t name(uint32_t agreed, const uint8_t *p, size_t unread, frame *f)
 {
     uint32_t last = p[unread - 1];
-    if (last < 64) {
-        *f = frame_of(MOULT_KIND_2400, 0, 0);
+    if (FRAMED(agreed) ? agreed == 2400 && last < 128 : last < 64) {
+        *f = frame_of(agreed, MOULT_KIND_2400, 0, 0);
     } else if (last < 128) {
-        *f = frame_of(MOULT_KIND_600, 0, 0);
+        *f = frame_of(agreed, MOULT_KIND_600, 0, 0);
     } else if (last < 130) {
-        *f = frame_of(MOULT_KIND_1200, 0, 0);
+        *f = frame_of(agreed, MOULT_KIND_1200, 0, 0);
     } else if (last < 160) {
         return MOULT_RESERVED_BITS;
     } else if (last < 192) {
-        *f = frame_of(MOULT_KIND_COMFORT_NOISE, 0, 0);
+        *f = frame_of(agreed, MOULT_KIND_COMFORT_NOISE, 0, 0);
     } else if (last < 255) {
-        *f = frame_of(MOULT_KIND_TSVCIS, last - 192 + 15, 1);
+        *f = frame_of(agreed, MOULT_KIND_TSVCIS, last - 192 + 15, 1);
     } else {
         if (unread == 1)
             return MOULT_FRAME_CUT;
@@ -103,34 +135,35 @@ static inline uint32_t name(const uint8_t *p, size_t unread, frame *f)
         if (tc == 0)
             return MOULT_LONG_COUNT_ZERO;
         if (in_short_range(tc))
-            *f = frame_of(MOULT_KIND_TSVCIS_LONG, tc, 2);
+            *f = frame_of(agreed, MOULT_KIND_TSVCIS_LONG, tc, 2);
         else
-            *f = frame_of(MOULT_KIND_TSVCIS, tc, 2);
+            *f = frame_of(agreed, MOULT_KIND_TSVCIS, tc, 2);
     }
     return 0;
 }
 
 /* The same, of a frame that a walk has passed. */
-static inline frame passed(const uint8_t *p, size_t unread)
+ONE_FOR_ALL_SESSIONS frame passed(uint32_t agreed, const uint8_t *p, size_t unread)
 {
     frame f;
-    if (name(p, unread, &f))
+    if (name(agreed, p, unread, &f))
         __builtin_unreachable();
     return f;
 }
 
-/* The frame that ends at `unread`, `later` frames being read, with the rate of their coder frames
-   (0 where there are none); gives 0 or the refusal number. */
-static inline uint32_t step(const uint8_t *p, size_t unread, size_t later, uint32_t rate, frame *f)
+/* The frame that ends at `unread`, `later` frames being read, with the rate that coder frames must
+   have (0 for any); gives 0 or the refusal number. */
+ONE_FOR_ALL_SESSIONS uint32_t step(uint32_t agreed, const uint8_t *p, size_t unread, size_t later,
+                                   uint32_t rate, frame *f)
 {
-    uint32_t number = name(p, unread, f);
+    uint32_t number = name(agreed, p, unread, f);
     if (number)
         return number;
     if (unread < f->wire)
         return MOULT_FRAME_CUT;
     if (f->kind == MOULT_KIND_COMFORT_NOISE)
         return later ? MOULT_COMFORT_NOISE_NOT_LAST : 0;
-    if (f->tc && p[unread - f->wire + 6] > 63)
+    if (f->tc && p[unread - f->wire + 6] > (FRAMED(agreed) ? 127 : 63))
         return MOULT_AUGMENTATION_NOT_2400;
     if (rate && rate != f->rate)
         return MOULT_RATES_MIXED;
@@ -143,8 +176,9 @@ static inline second_walked walk_refused(uint32_t number, size_t place)
     return w;
 }
 
-/* Inlined where it is asked, so that its answer stays in registers. */
-static inline __attribute__((always_inline)) second_walked walk(const uint8_t *p, size_t n)
+/* Inlined where it is asked, so that its answer stays in registers, too. Until a coder frame is read
+   the rate agreed holds, which is not reported. */
+ONE_FOR_ALL_SESSIONS second_walked walk(uint32_t agreed, const uint8_t *p, size_t n)
 {
     second_walked w = {0, 0, 0, 0, 0, 0};
     size_t coders = 0;
@@ -152,7 +186,8 @@ static inline __attribute__((always_inline)) second_walked walk(const uint8_t *p
         return walk_refused(MOULT_TOO_LONG, MOULT_MAX_OCTETS);
     for (size_t unread = n; unread;) {
         frame f;
-        uint32_t number = step(p, unread, w.frames, w.rate, &f);
+        uint32_t rate = FRAMED(agreed) && !w.rate ? agreed : w.rate;
+        uint32_t number = step(agreed, p, unread, w.frames, rate, &f);
         if (number)
             return walk_refused(number, unread);
         unread -= f.wire;
@@ -167,22 +202,45 @@ static inline __attribute__((always_inline)) second_walked walk(const uint8_t *p
     return w;
 }
 
+/* Of any two numbers: an agreed rate that there is not is refused before all else. */
+static inline second_walked walk_session(uint32_t agreed, uint32_t rate, const uint8_t *p, size_t n)
+{
+    if (!is_session(agreed, rate))
+        return walk_refused(MOULT_UNKNOWN, 0);
+    return walk(rate_agreed(agreed, rate), p, n);
+}
+
 second_walked second_walk(const uint8_t *payload, size_t n)
 {
-    return walk(payload, n);
+    return walk(0, payload, n);
+}
+
+second_walked second_walk_session(uint32_t agreed, uint32_t rate, const uint8_t *payload, size_t n)
+{
+    return walk_session(agreed, rate, payload, n);
 }
 
 int32_t second_count(const uint8_t *payload, size_t n)
 {
-    second_walked w = walk(payload, n);
+    second_walked w = walk(0, payload, n);
     return w.number ? -(int32_t)w.number : (int32_t)w.frames;
+}
+
+static moult_ticks ticks_walked(second_walked w)
+{
+    moult_ticks t = {w.number, w.place, w.ticks};
+    return t;
 }
 
 moult_ticks second_packet_ticks(const uint8_t *payload, size_t n)
 {
-    second_walked w = walk(payload, n);
-    moult_ticks t = {w.number, w.place, w.ticks};
-    return t;
+    return ticks_walked(walk(0, payload, n));
+}
+
+moult_ticks second_packet_ticks_session(uint32_t agreed, uint32_t rate, const uint8_t *payload,
+                                        size_t n)
+{
+    return ticks_walked(walk_session(agreed, rate, payload, n));
 }
 
 moult_millis second_ptime(uint32_t rate, size_t frames)
@@ -195,12 +253,12 @@ moult_millis second_ptime(uint32_t rate, size_t frames)
     return t;
 }
 
-static void fill(const uint8_t *p, size_t n, uint16_t *rows, size_t frames, uint8_t *bodies,
-                 size_t octets)
+ONE_FOR_ALL_SESSIONS void fill(uint32_t agreed, const uint8_t *p, size_t n, uint16_t *rows,
+                               size_t frames, uint8_t *bodies, size_t octets)
 {
     size_t unread = n;
     while (unread) {
-        frame f = passed(p, unread);
+        frame f = passed(agreed, p, unread);
         size_t body = f.base + f.tc;
         unread -= f.wire;
         frames--;
@@ -222,44 +280,93 @@ static moult_reading read_refused(uint32_t number, size_t place)
     return r;
 }
 
-moult_reading second_read(const uint8_t *payload, size_t n, uint16_t *rows, size_t rows_n,
-                          uint8_t *bodies, size_t bodies_n)
+ONE_FOR_ALL_SESSIONS moult_reading read_in(uint32_t agreed, const uint8_t *payload, size_t n,
+                                           uint16_t *rows, size_t rows_n, uint8_t *bodies,
+                                           size_t bodies_n)
 {
-    second_walked w = walk(payload, n);
+    second_walked w = walk(agreed, payload, n);
     if (w.number)
         return read_refused(w.number, w.place);
     if (rows_n / 2 < w.frames)
         return read_refused(MOULT_NUMBERS_TOO_SHORT, w.frames);
     if (bodies_n < w.octets)
         return read_refused(MOULT_OCTETS_TOO_SHORT, w.octets);
-    fill(payload, n, rows, w.frames, bodies, w.octets);
+    fill(agreed, payload, n, rows, w.frames, bodies, w.octets);
     moult_reading r = {0, w.rate, 0, w.frames, w.octets, w.ticks};
     return r;
 }
 
-/* The frame of a row: walks back over the rows behind it. 0 if it is missing. */
-static int locate(const uint8_t *p, size_t n, size_t row, size_t *start, frame *f)
+moult_reading second_read(const uint8_t *payload, size_t n, uint16_t *rows, size_t rows_n,
+                          uint8_t *bodies, size_t bodies_n)
 {
-    second_walked w = walk(p, n);
+    return read_in(0, payload, n, rows, rows_n, bodies, bodies_n);
+}
+
+moult_reading second_read_session(uint32_t agreed, uint32_t rate, const uint8_t *payload, size_t n,
+                                  uint16_t *rows, size_t rows_n, uint8_t *bodies, size_t bodies_n)
+{
+    if (!is_session(agreed, rate))
+        return read_refused(MOULT_UNKNOWN, 0);
+    return read_in(rate_agreed(agreed, rate), payload, n, rows, rows_n, bodies, bodies_n);
+}
+
+/* The frame of a row and where it starts: walks back over the rows behind it. Its kind is 0 if it is
+   missing. */
+typedef struct {
+    frame named;
+    size_t start;
+} located;
+
+static const located missing = {{0, 0, 0, 0, 0, 0}, 0};
+
+ONE_FOR_ALL_SESSIONS located locate(uint32_t agreed, const uint8_t *p, size_t n, size_t row)
+{
+    second_walked w = walk(agreed, p, n);
+    located l = missing;
     if (w.number || row >= w.frames)
-        return 0;
-    size_t unread = n;
+        return l;
+    l.start = n;
     for (size_t i = w.frames; i > row; i--) {
-        *f = passed(p, unread);
-        unread -= f->wire;
+        l.named = passed(agreed, p, l.start);
+        l.start -= l.named.wire;
     }
-    *start = unread;
-    return 1;
+    return l;
+}
+
+static inline located locate_session(uint32_t agreed, uint32_t rate, const uint8_t *p, size_t n,
+                                     size_t row)
+{
+    return is_session(agreed, rate) ? locate(rate_agreed(agreed, rate), p, n, row) : missing;
+}
+
+static inline moult_part augmentation_of(located l)
+{
+    moult_part part = {0, 0, 0};
+    if (l.named.tc) {
+        part.start = l.start + l.named.base;
+        part.length = l.named.tc;
+    }
+    return part;
 }
 
 moult_part second_augmentation(const uint8_t *payload, size_t n, size_t row)
 {
-    moult_part part = {0, 0, 0};
-    frame f;
-    size_t start;
-    if (locate(payload, n, row, &start, &f) && f.tc) {
-        part.start = start + f.base;
-        part.length = f.tc;
+    return augmentation_of(locate(0, payload, n, row));
+}
+
+moult_part second_augmentation_session(uint32_t agreed, uint32_t rate, const uint8_t *payload,
+                                       size_t n, size_t row)
+{
+    return augmentation_of(locate_session(agreed, rate, payload, n, row));
+}
+
+static inline moult_part own_octets_or(located l, size_t stand_in_n)
+{
+    moult_part part = {1, 0, stand_in_n};
+    if (l.named.kind) {
+        part.stand_in = 0;
+        part.start = l.start;
+        part.length = l.named.wire;
     }
     return part;
 }
@@ -267,16 +374,15 @@ moult_part second_augmentation(const uint8_t *payload, size_t n, size_t row)
 moult_part second_frame_or(const uint8_t *payload, size_t n, size_t row, const uint8_t *stand_in,
                            size_t stand_in_n)
 {
-    moult_part part = {1, 0, stand_in_n};
-    frame f;
-    size_t start;
     (void)stand_in;
-    if (locate(payload, n, row, &start, &f)) {
-        part.stand_in = 0;
-        part.start = start;
-        part.length = f.wire;
-    }
-    return part;
+    return own_octets_or(locate(0, payload, n, row), stand_in_n);
+}
+
+moult_part second_frame_or_session(uint32_t agreed, uint32_t rate, const uint8_t *payload, size_t n,
+                                   size_t row, const uint8_t *stand_in, size_t stand_in_n)
+{
+    (void)stand_in;
+    return own_octets_or(locate_session(agreed, rate, payload, n, row), stand_in_n);
 }
 
 /* ---- to octets */
@@ -287,7 +393,7 @@ static moult_writing writing(uint32_t number, size_t place, size_t octets)
     return w;
 }
 
-/* A row by itself and behind coder rows of a rate (0 where there are none); gives 0 or the refusal
+/* A row by itself and where coder frames must have a rate (0 for any); gives 0 or the refusal
    number. */
 static inline uint32_t row_refusal(const uint16_t *rows, size_t frames, size_t row, uint32_t rate)
 {
@@ -301,15 +407,17 @@ static inline uint32_t row_refusal(const uint16_t *rows, size_t frames, size_t r
     return rate && rate != kinds[kind].rate ? MOULT_RATES_MIXED : 0;
 }
 
-static inline void put_frame(uint16_t kind, uint16_t tc, const uint8_t *body, uint8_t *out)
+static inline void put_frame(uint32_t agreed, uint16_t kind, uint16_t tc, const uint8_t *body,
+                             uint8_t *out)
 {
+    kind_row k = kind_in(agreed, kind);
     size_t length = body_octets(kind, tc);
     if (length == 7)
         memcpy(out, body, 7);
     else
         memcpy(out, body, length);
-    uint8_t *end = out + kinds[kind].base - 1;
-    *end = (uint8_t)(*end + kinds[kind].code);
+    uint8_t *end = out + k.base - 1;
+    *end = (uint8_t)(*end + k.code);
     if (tc == 0)
         return;
     if (count_octets(kind, tc) == 1) {
@@ -320,11 +428,12 @@ static inline void put_frame(uint16_t kind, uint16_t tc, const uint8_t *body, ui
     }
 }
 
-moult_writing second_write(const uint16_t *rows, size_t rows_n, const uint8_t *bodies,
-                           size_t bodies_n, uint8_t *out, size_t out_n)
+ONE_FOR_ALL_SESSIONS moult_writing write_in(uint32_t agreed, const uint16_t *rows, size_t rows_n,
+                                            const uint8_t *bodies, size_t bodies_n, uint8_t *out,
+                                            size_t out_n)
 {
     size_t frames = rows_n / 2, wire = 0, sum = 0;
-    uint32_t rate = 0;
+    uint32_t rate = agreed;
     if (rows_n % 2)
         return writing(MOULT_ODD_ROWS, rows_n, 0);
     if (frames > MOULT_MAX_FRAMES)
@@ -345,9 +454,9 @@ moult_writing second_write(const uint16_t *rows, size_t rows_n, const uint8_t *b
         return writing(MOULT_WRONG_LENGTH, sum, 0);
     size_t at = 0;
     for (size_t i = 0; i < frames; i++) {
-        uint16_t kind = rows[2 * i];
-        size_t end = at + kinds[kind].base - 1;
-        if (bodies[end] > kinds[kind].end)
+        kind_row k = kind_in(agreed, rows[2 * i]);
+        size_t end = at + k.base - 1;
+        if (bodies[end] > k.end)
             return writing(MOULT_RESERVED_BITS, end, 0);
         at = end + 1 + rows[2 * i + 1];
     }
@@ -356,9 +465,24 @@ moult_writing second_write(const uint16_t *rows, size_t rows_n, const uint8_t *b
     size_t from = 0, to = 0;
     for (size_t i = 0; i < frames; i++) {
         uint16_t kind = rows[2 * i], tc = rows[2 * i + 1];
-        put_frame(kind, tc, bodies + from, out + to);
+        put_frame(agreed, kind, tc, bodies + from, out + to);
         from += body_octets(kind, tc);
         to += body_octets(kind, tc) + count_octets(kind, tc);
     }
     return writing(0, 0, wire);
+}
+
+moult_writing second_write(const uint16_t *rows, size_t rows_n, const uint8_t *bodies,
+                           size_t bodies_n, uint8_t *out, size_t out_n)
+{
+    return write_in(0, rows, rows_n, bodies, bodies_n, out, out_n);
+}
+
+moult_writing second_write_session(uint32_t agreed, uint32_t rate, const uint16_t *rows,
+                                   size_t rows_n, const uint8_t *bodies, size_t bodies_n,
+                                   uint8_t *out, size_t out_n)
+{
+    if (!is_session(agreed, rate))
+        return writing(MOULT_UNKNOWN, 0, 0);
+    return write_in(rate_agreed(agreed, rate), rows, rows_n, bodies, bodies_n, out, out_n);
 }

@@ -18,6 +18,7 @@ typedef struct {
 } second_walked;
 
 second_walked second_walk(const uint8_t *payload, size_t n);
+second_walked second_walk_session(uint32_t agreed, uint32_t rate, const uint8_t *payload, size_t n);
 
 int32_t second_count(const uint8_t *payload, size_t n);
 moult_reading second_read(const uint8_t *payload, size_t n, uint16_t *rows, size_t rows_n,
@@ -30,6 +31,17 @@ moult_millis second_ptime(uint32_t rate, size_t frames);
 moult_part second_augmentation(const uint8_t *payload, size_t n, size_t row);
 moult_part second_frame_or(const uint8_t *payload, size_t n, size_t row, const uint8_t *stand_in,
                            size_t stand_in_n);
+moult_reading second_read_session(uint32_t agreed, uint32_t rate, const uint8_t *payload, size_t n,
+                                  uint16_t *rows, size_t rows_n, uint8_t *bodies, size_t bodies_n);
+moult_writing second_write_session(uint32_t agreed, uint32_t rate, const uint16_t *rows,
+                                   size_t rows_n, const uint8_t *bodies, size_t bodies_n,
+                                   uint8_t *out, size_t out_n);
+moult_ticks second_packet_ticks_session(uint32_t agreed, uint32_t rate, const uint8_t *payload,
+                                        size_t n);
+moult_part second_augmentation_session(uint32_t agreed, uint32_t rate, const uint8_t *payload,
+                                       size_t n, size_t row);
+moult_part second_frame_or_session(uint32_t agreed, uint32_t rate, const uint8_t *payload, size_t n,
+                                   size_t row, const uint8_t *stand_in, size_t stand_in_n);
 moult_settings_reading second_settings_read(const uint8_t *text, size_t n);
 moult_writing second_settings_write(uint16_t first, uint16_t second, uint16_t third, uint16_t tcmax,
                                     uint8_t *out, size_t out_n);

@@ -143,6 +143,17 @@ static void nothing_lent(void)
     CHECK(part.stand_in == 1 && part.start == 0 && part.length == 0);
     moult_writing w = moult_write(NULL, 0, NULL, 0, NULL, 0);
     CHECK(w.number == 0 && w.place == 0 && w.octets == 0);
+    for (uint32_t rate = 600; rate <= 2400; rate += 1800) {
+        r = moult_read_session(1, rate, NULL, 0, NULL, 0, NULL, 0);
+        CHECK(r.number == 0 && r.place == 0 && r.rows == 0 && r.octets == 0);
+        CHECK(r.rate == 0 && r.ticks == 0);
+        CHECK(moult_packet_ticks_session(1, rate, NULL, 0).number == 0);
+        CHECK(moult_augmentation_session(1, rate, NULL, 0, 0).length == 0);
+        part = moult_frame_or_session(1, rate, NULL, 0, 0, NULL, 0);
+        CHECK(part.stand_in == 1 && part.start == 0 && part.length == 0);
+        w = moult_write_session(1, rate, NULL, 0, NULL, 0, NULL, 0);
+        CHECK(w.number == 0 && w.place == 0 && w.octets == 0);
+    }
     moult_settings_reading s = moult_settings_read(NULL, 0);
     CHECK(s.number == 0 && s.settings.first == 2400 && s.settings.second == 0 &&
           s.settings.third == 0 && s.settings.tcmax == 35);
@@ -156,6 +167,97 @@ static void nothing_lent(void)
     CHECK(e.number == 0 && e.place == 0 && e.entries == 0 && e.next == 0);
     w = moult_journal_write_entry(0, 0, NULL, 0, NULL, 0);
     CHECK(w.number == 10 && w.place == 3 && w.octets == 0);
+}
+
+/* One frame alone in a session, in which it is the same octets again. */
+static void one_row_in(uint32_t agreed, uint32_t rate, const char *text, unsigned kind, unsigned tc,
+                       size_t ticks)
+{
+    static uint8_t back[64];
+    size_t n = payload_of(text), body = moult_body_octets((uint16_t)kind, (uint16_t)tc);
+    memset(rows, GUARD, sizeof rows);
+    memset(bodies, GUARD, sizeof bodies);
+    moult_reading r = moult_read_session(agreed, rate, octets, n, rows, MOULT_MAX_NUMBERS, bodies,
+                                         MOULT_MAX_OCTETS);
+    CHECK(r.number == 0 && r.place == 0 && r.rows == 1 && r.octets == body);
+    CHECK(r.rate == (ticks == 180 ? 2400u : ticks == 540 ? 1200u : ticks == 720 ? 600u : 0u));
+    CHECK(r.ticks == ticks && rows[0] == kind && rows[1] == tc && unchanged_from(2, body));
+    moult_ticks t = moult_packet_ticks_session(agreed, rate, octets, n);
+    CHECK(t.number == 0 && t.place == 0 && t.ticks == ticks);
+    moult_part part = moult_frame_or_session(agreed, rate, octets, n, 0, NULL, 0);
+    CHECK(part.stand_in == 0 && part.start == 0 && part.length == n);
+    part = moult_augmentation_session(agreed, rate, octets, n, 0);
+    CHECK(part.stand_in == 0 && part.start == (tc ? 7u : 0u) && part.length == tc);
+    moult_writing w = moult_write_session(agreed, rate, rows, 2, bodies, body, back, sizeof back);
+    CHECK(w.number == 0 && w.place == 0 && w.octets == n && memcmp(back, octets, n) == 0);
+}
+
+static void refused_in(uint32_t agreed, uint32_t rate, const char *text, uint32_t number,
+                       size_t place)
+{
+    size_t n = payload_of(text);
+    memset(rows, GUARD, sizeof rows);
+    memset(bodies, GUARD, sizeof bodies);
+    moult_reading r = moult_read_session(agreed, rate, octets, n, rows, MOULT_MAX_NUMBERS, bodies,
+                                         MOULT_MAX_OCTETS);
+    CHECK(r.number == number && r.place == place && r.rows == 0 && r.octets == 0);
+    CHECK(r.rate == 0 && r.ticks == 0 && unchanged_from(0, 0));
+    moult_ticks t = moult_packet_ticks_session(agreed, rate, octets, n);
+    CHECK(t.number == number && t.place == place && t.ticks == 0);
+    moult_part part = moult_frame_or_session(agreed, rate, octets, n, 0, bodies, 5);
+    CHECK(part.stand_in == 1 && part.start == 0 && part.length == 5);
+    part = moult_augmentation_session(agreed, rate, octets, n, 0);
+    CHECK(part.stand_in == 0 && part.start == 0 && part.length == 0);
+}
+
+static void written_refused_in(uint32_t agreed, uint32_t rate, uint16_t kind, uint8_t end,
+                               uint32_t number, size_t place)
+{
+    uint16_t row[2] = {kind, 0};
+    uint8_t body[7] = {0, 0, 0, 0, 0, 0, end}, out[7] = {GUARD};
+    moult_writing w = moult_write_session(agreed, rate, row, 2, body, 7, out, 7);
+    CHECK(w.number == number && w.place == place && w.octets == 0 && out[0] == GUARD);
+}
+
+static void sessions(void)
+{
+    one_row_in(0, 0, "00*6 40", 3, 0, 720);
+    one_row_in(0, 2400, "00*6 40", 3, 0, 720);
+    one_row_in(0, 1200, "00*10 81", 2, 0, 540);
+    one_row_in(0, UINT32_MAX, "00*7", 1, 0, 180);
+    one_row_in(1, 2400, "00*6 40", 1, 0, 180);
+    CHECK(bodies[6] == 0x40);
+    one_row_in(2, 2400, "00*6 40", 1, 0, 180);
+    one_row_in(0x10000, 600, "00*7", 3, 0, 720);
+    one_row_in(UINT32_MAX, 600, "00*6 7F", 3, 0, 720);
+    CHECK(bodies[6] == 0x7F);
+    one_row_in(1, 2400, "00*6 64 AA 01 FF", 5, 1, 180);
+    CHECK(bodies[6] == 0x64);
+    one_row_in(1, 2400, "00*6 7F AA*15 0F FF", 6, 15, 180);
+    one_row_in(1, 2400, "00 A0", 4, 0, 0);
+    one_row_in(1, 600, "00 A0", 4, 0, 0);
+    refused_in(0, 2400, "00*13 40", 8, 7);
+    refused_in(1, 2400, "00*6 80 AA 01 FF", 7, 10);
+    refused_in(1, 600, "00*6 80 AA 01 FF", 7, 10);
+    refused_in(1, 600, "00*7 AA 01 FF", 8, 10);
+    refused_in(1, 600, "00*22 0F FF", 8, 24);
+    refused_in(1, 2400, "00*10 81", 8, 11);
+    refused_in(1, 600, "00*10 81", 8, 11);
+    refused_in(1, 0, "", 12, 0);
+    refused_in(1, 1200, "00*10 81", 12, 0);
+    refused_in(1, 2401, "00*1401", 12, 0);
+    refused_in(1, 65536 + 2400, "00*7", 12, 0);
+    refused_in(UINT32_MAX, UINT32_MAX, "FF", 12, 0);
+    written_refused_in(0, 600, 1, 64, 3, 6);
+    written_refused_in(1, 2400, 1, 128, 3, 6);
+    written_refused_in(1, 600, 3, 128, 3, 6);
+    written_refused_in(1, 600, 1, 0, 8, 0);
+    written_refused_in(1, 2400, 3, 0, 8, 0);
+    written_refused_in(1, 1200, 9, 0, 12, 0);
+    moult_writing w = moult_write_session(1, 2401, rows, 1, NULL, 0, NULL, 0);
+    CHECK(w.number == 12 && w.place == 0 && w.octets == 0);
+    w = moult_write_session(1, 2400, rows, 1, NULL, 0, NULL, 0);
+    CHECK(w.number == 11 && w.place == 1 && w.octets == 0);
 }
 
 static void room(void)
@@ -326,6 +428,7 @@ int main(void)
 {
     CHECK(moult_version() == MOULT_VERSION);
     bench_payloads();
+    sessions();
     nothing_lent();
     room();
     body_octets();

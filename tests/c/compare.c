@@ -106,27 +106,44 @@ static size_t room(size_t needed, int more)
 }
 
 /* What was read, written: the payload again. */
-static void compare_back(const uint8_t *payload, size_t n, moult_reading r)
+static void compare_back(compare_session in, const uint8_t *payload, size_t n, moult_reading r)
 {
     static uint8_t back[MOULT_MAX_OCTETS];
-    moult_writing w = moult_write(numbers + GUARD, 2 * r.rows, octets + GUARD, r.octets, back, n);
+    moult_writing w = moult_write_session(in.agreed, in.rate, numbers + GUARD, 2 * r.rows,
+                                          octets + GUARD, r.octets, back, n);
     MUST(w.number == 0 && w.octets == n && (n == 0 || memcmp(back, payload, n) == 0));
 }
 
-static void compare_read(const uint8_t *payload, size_t n, int more_numbers, int more_octets)
+static void compare_reading(moult_reading got, moult_reading wanted)
 {
-    second_walked w = second_walk(payload, n);
-    size_t rows_n = room(2 * w.frames, more_numbers), bodies_n = room(w.octets, more_octets);
-    lend();
-    moult_reading got = moult_read(payload, n, numbers + GUARD, rows_n, octets + GUARD, bodies_n);
-    moult_reading wanted = second_read(payload, n, wanted_numbers + GUARD, rows_n,
-                                       wanted_octets + GUARD, bodies_n);
     MUST(got.number == wanted.number && got.place == wanted.place);
     MUST(got.rows == wanted.rows && got.octets == wanted.octets);
     MUST(got.rate == wanted.rate && got.ticks == wanted.ticks);
     compare_memory();
+}
+
+static void compare_read(compare_session in, const uint8_t *payload, size_t n, int more_numbers,
+                         int more_octets)
+{
+    second_walked w = second_walk_session(in.agreed, in.rate, payload, n);
+    size_t rows_n = room(2 * w.frames, more_numbers), bodies_n = room(w.octets, more_octets);
+    lend();
+    moult_reading got = moult_read_session(in.agreed, in.rate, payload, n, numbers + GUARD, rows_n,
+                                           octets + GUARD, bodies_n);
+    moult_reading wanted = second_read_session(in.agreed, in.rate, payload, n,
+                                               wanted_numbers + GUARD, rows_n,
+                                               wanted_octets + GUARD, bodies_n);
+    compare_reading(got, wanted);
     if (got.number == 0)
-        compare_back(payload, n, got);
+        compare_back(in, payload, n, got);
+    if (in.agreed)
+        return;
+    lend();
+    got = moult_read(payload, n, numbers + GUARD, rows_n, octets + GUARD, bodies_n);
+    compare_reading(second_read(payload, n, wanted_numbers + GUARD, rows_n, wanted_octets + GUARD,
+                                bodies_n),
+                    wanted);
+    compare_reading(got, wanted);
 }
 
 static void compare_part(moult_part got, moult_part wanted)
@@ -135,40 +152,75 @@ static void compare_part(moult_part got, moult_part wanted)
     MUST(got.start == wanted.start && got.length == wanted.length);
 }
 
-static void compare_view(const uint8_t *payload, size_t n, size_t row)
+static void compare_view(compare_session in, const uint8_t *payload, size_t n, size_t row)
 {
     /* A stand-in is never looked at, so it need not be readable. */
     const uint8_t *stand_in = first_lent.start;
-    compare_part(moult_augmentation(payload, n, row), second_augmentation(payload, n, row));
-    compare_part(moult_frame_or(payload, n, row, stand_in, 9),
-                 second_frame_or(payload, n, row, stand_in, 9));
+    moult_part wanted = second_augmentation_session(in.agreed, in.rate, payload, n, row);
+    compare_part(moult_augmentation_session(in.agreed, in.rate, payload, n, row), wanted);
+    if (!in.agreed) {
+        compare_part(second_augmentation(payload, n, row), wanted);
+        compare_part(moult_augmentation(payload, n, row), wanted);
+    }
+    wanted = second_frame_or_session(in.agreed, in.rate, payload, n, row, stand_in, 9);
+    compare_part(moult_frame_or_session(in.agreed, in.rate, payload, n, row, stand_in, 9), wanted);
+    if (!in.agreed) {
+        compare_part(second_frame_or(payload, n, row, stand_in, 9), wanted);
+        compare_part(moult_frame_or(payload, n, row, stand_in, 9), wanted);
+    }
 }
 
-void compare_payload(const uint8_t *data, size_t n, int more_numbers, int more_octets)
+static void compare_time(moult_ticks got, moult_ticks wanted)
+{
+    MUST(got.number == wanted.number && got.place == wanted.place && got.ticks == wanted.ticks);
+}
+
+static void compare_ticks(compare_session in, const uint8_t *payload, size_t n)
+{
+    moult_ticks wanted = second_packet_ticks_session(in.agreed, in.rate, payload, n);
+    compare_time(moult_packet_ticks_session(in.agreed, in.rate, payload, n), wanted);
+    if (!in.agreed) {
+        compare_time(second_packet_ticks(payload, n), wanted);
+        compare_time(moult_packet_ticks(payload, n), wanted);
+        MUST(moult_count(payload, n) == second_count(payload, n));
+    }
+}
+
+void compare_payload(compare_session in, const uint8_t *data, size_t n, int more_numbers,
+                     int more_octets)
 {
     const uint8_t *payload = lend_input(&first_lent, data, n);
-    compare_read(payload, n, more_numbers, more_octets);
-    moult_ticks got = moult_packet_ticks(payload, n), wanted = second_packet_ticks(payload, n);
-    MUST(got.number == wanted.number && got.place == wanted.place && got.ticks == wanted.ticks);
-    MUST(moult_count(payload, n) == second_count(payload, n));
-    for (size_t row = 0; row <= second_walk(payload, n).frames; row++)
-        compare_view(payload, n, row);
-    compare_view(payload, n, SIZE_MAX);
+    size_t frames = second_walk_session(in.agreed, in.rate, payload, n).frames;
+    compare_read(in, payload, n, more_numbers, more_octets);
+    compare_ticks(in, payload, n);
+    for (size_t row = 0; row <= frames; row++)
+        compare_view(in, payload, n, row);
+    compare_view(in, payload, n, SIZE_MAX);
     compare_memory();
 }
 
-void compare_write(const uint16_t *row_list, size_t rows_n, const uint8_t *body_list,
-                   size_t bodies_n, int more)
+void compare_write(compare_session in, const uint16_t *row_list, size_t rows_n,
+                   const uint8_t *body_list, size_t bodies_n, int more)
 {
     const uint16_t *rows = lend_input(&first_lent, row_list, rows_n * sizeof *rows);
     const uint8_t *bodies = lend_input(&bodies_lent, body_list, bodies_n);
     lend();
-    moult_writing full = second_write(rows, rows_n, bodies, bodies_n, wanted_octets + GUARD,
-                                      MOULT_MAX_OCTETS);
+    moult_writing full = second_write_session(in.agreed, in.rate, rows, rows_n, bodies, bodies_n,
+                                              wanted_octets + GUARD, MOULT_MAX_OCTETS);
     size_t out_n = room(full.octets, more);
     lend();
-    compare_writing(moult_write(rows, rows_n, bodies, bodies_n, octets + GUARD, out_n),
-                    second_write(rows, rows_n, bodies, bodies_n, wanted_octets + GUARD, out_n));
+    moult_writing wanted = second_write_session(in.agreed, in.rate, rows, rows_n, bodies, bodies_n,
+                                                wanted_octets + GUARD, out_n);
+    compare_writing(moult_write_session(in.agreed, in.rate, rows, rows_n, bodies, bodies_n,
+                                        octets + GUARD, out_n),
+                    wanted);
+    if (in.agreed)
+        return;
+    lend();
+    moult_writing got = moult_write(rows, rows_n, bodies, bodies_n, octets + GUARD, out_n);
+    compare_writing(second_write(rows, rows_n, bodies, bodies_n, wanted_octets + GUARD, out_n),
+                    wanted);
+    compare_writing(got, wanted);
 }
 
 void compare_body_octets(uint16_t kind, uint16_t tc)

@@ -12,9 +12,17 @@ enum { COMPARE_OCTETS = 4096 };
 /* Inputs are lent where memory ends behind them (0, as at the start) or in front of them (1). */
 void compare_in_front(int in_front);
 
-void compare_payload(const uint8_t *payload, size_t n, int more_numbers, int more_octets);
-void compare_write(const uint16_t *rows, size_t rows_n, const uint8_t *bodies, size_t bodies_n,
-                   int more);
+/* A session as moult_read_session takes it. Where framing is not agreed, the functions without a
+   session are compared, too. */
+typedef struct {
+    uint32_t agreed;
+    uint32_t rate;
+} compare_session;
+
+void compare_payload(compare_session in, const uint8_t *payload, size_t n, int more_numbers,
+                     int more_octets);
+void compare_write(compare_session in, const uint16_t *rows, size_t rows_n, const uint8_t *bodies,
+                   size_t bodies_n, int more);
 void compare_body_octets(uint16_t kind, uint16_t tc);
 void compare_ptime(uint32_t rate, size_t frames);
 void compare_settings_read(const uint8_t *text, size_t n);

@@ -1,6 +1,6 @@
 /* The library against the second C implementation over many inputs, the same in each run: legal
    payloads, damaged and clipped ones, random octets, row lists, setting texts, fields, times and
-   journals. */
+   journals. Payloads and row lists are tried in every session. */
 #include "compare.h"
 
 #include <stdio.h>
@@ -44,17 +44,33 @@ static int random_more(void)
     return one_in(2) ? 0 : (int)below(5) - 2;
 }
 
+/* ---- sessions */
+
+enum { NOT_AGREED, AGREED_2400, AGREED_600, LEGAL_SESSIONS, SESSIONS = LEGAL_SESSIONS + 5 };
+
+/* Not agreed looks at no rate; any number but 0 says agreed. */
+static compare_session session_of(size_t index)
+{
+    static const uint32_t agreed[] = {1, 2, 0x100, 0x10000, 0x80000000, UINT32_MAX};
+    static const uint32_t rates[SESSIONS] = {0, 2400, 600, 0, 1200, 2401, 67936, UINT32_MAX};
+    compare_session not_agreed = {0, rates[below(SESSIONS)]};
+    compare_session in = {agreed[below(6)], rates[index]};
+    return index == NOT_AGREED ? not_agreed : in;
+}
+
 /* ---- payloads */
 
 static void try_payload(const uint8_t *payload, size_t n)
 {
     compare_in_front((int)below(2));
-    compare_payload(payload, n, random_more(), random_more());
+    for (size_t i = 0; i < SESSIONS; i++)
+        compare_payload(session_of(i), payload, n, random_more(), random_more());
     compared++;
 }
 
-/* Rows and bodies of a legal sequence, and its octets. */
+/* Rows and bodies of a legal sequence of a session, and its octets. */
 typedef struct {
+    size_t session;
     uint16_t rows[MOULT_MAX_NUMBERS];
     size_t rows_n;
     uint8_t bodies[MOULT_MAX_OCTETS + 300];
@@ -70,9 +86,10 @@ static uint16_t random_tc(void)
 }
 
 /* The largest last octet of a body of the kind, its augmentation set aside. */
-static uint8_t end_of(uint16_t kind)
+static uint8_t end_of(size_t session, uint16_t kind)
 {
-    return kind == MOULT_KIND_1200 ? 1 : kind == MOULT_KIND_COMFORT_NOISE ? 31 : 63;
+    uint8_t others = session == NOT_AGREED ? 63 : 127;
+    return kind == MOULT_KIND_1200 ? 1 : kind == MOULT_KIND_COMFORT_NOISE ? 31 : others;
 }
 
 /* A TSVCIS frame, with either count where its TC allows both. */
@@ -88,7 +105,7 @@ static void add_frame(sequence *s, uint16_t kind, uint16_t tc)
     size_t n = second_body_octets(kind, tc);
     for (size_t i = 0; i < n; i++)
         body[i] = random_octet();
-    body[n - tc - 1] &= end_of(kind);
+    body[n - tc - 1] &= end_of(s->session, kind);
     s->rows[s->rows_n] = kind;
     s->rows[s->rows_n + 1] = tc;
     s->rows_n += 2;
@@ -97,8 +114,9 @@ static void add_frame(sequence *s, uint16_t kind, uint16_t tc)
 
 static void make_sequence(sequence *s)
 {
-    static const uint16_t kinds[] = {MOULT_KIND_2400, MOULT_KIND_1200, MOULT_KIND_600};
-    uint16_t plain = kinds[below(3)];
+    static const uint16_t kinds[] = {MOULT_KIND_2400, MOULT_KIND_600, MOULT_KIND_1200};
+    s->session = below(LEGAL_SESSIONS);
+    uint16_t plain = kinds[s->session == NOT_AGREED ? below(3) : s->session - AGREED_2400];
     size_t frames = one_in(20) ? below(MOULT_MAX_FRAMES + 1) : below(6);
     size_t wire = 0;
     s->rows_n = s->bodies_n = 0;
@@ -113,14 +131,17 @@ static void make_sequence(sequence *s)
     }
     if (one_in(3) && s->rows_n < MOULT_MAX_NUMBERS)
         add_frame(s, MOULT_KIND_COMFORT_NOISE, 0);
-    s->wire_n = second_write(s->rows, s->rows_n, s->bodies, s->bodies_n, s->wire, MOULT_MAX_OCTETS)
+    compare_session in = session_of(s->session);
+    s->wire_n = second_write_session(in.agreed, in.rate, s->rows, s->rows_n, s->bodies, s->bodies_n,
+                                     s->wire, MOULT_MAX_OCTETS)
                     .octets;
 }
 
 static void try_write(const uint16_t *rows, size_t rows_n, const uint8_t *bodies, size_t bodies_n)
 {
     compare_in_front((int)below(2));
-    compare_write(rows, rows_n, bodies, bodies_n, random_more());
+    for (size_t i = 0; i < SESSIONS; i++)
+        compare_write(session_of(i), rows, rows_n, bodies, bodies_n, random_more());
     compared++;
 }
 

@@ -1,13 +1,16 @@
--- docs/FORMAT.md, "Time": packet time in ticks, ptime in milliseconds.
+-- docs/FORMAT.md, "Time" and "Sessions": packet time in ticks, ptime in milliseconds.
 use mathlib.Core.Path.{_≡_}
 use mathlib.Core.Bool.{cond, _&&_}
 use mathlib.Core.List.{List}
+use mathlib.Core.Option.{Option, none, some}
 use Prim.Native.Nat.{ℕ, _+_, _*_, _/_}
 use lib.Dec.{leb}
 use Rattle.refusal.specs.Numbers.{unknown}
 use Rattle.refusal.specs.Report.{Report, accepted, refusedWith, refusal}
-use Rattle.wire.specs.Frame.{Frame, Legal, octetsOf, rowsOf, sumOf, ticks, isRate, ticksOfRate}
+use Rattle.wire.specs.Frame.{Frame, framingOf, Legal, octetsOf, rowsOf, sumOf, ticks, isRate, ticksOfRate}
 use Rattle.wire.specs.Walk.{Walk, at, refused, readOf}
+use Rattle.wire.specs.declared.Session.{Session}
+use Rattle.wire.specs.declared.Framing.{Framing}
 use Rattle.clock.specs.declared.Ticks.{Ticks}
 use Rattle.clock.specs.declared.Millis.{Millis}
 use Rattle.clock.specs.declared.PacketTicks.{PacketTicks}
@@ -37,14 +40,19 @@ abbrev pub timeOf : Walk → PacketTicks
 timeOf (at u fs) = packet.Lasts (ticksIn (ticksOf fs))
 timeOf (refused n place behind) = packet.Refused (refusal n place)
 
--- what `packet_ticks` promises of a payload p: its answer and numbers by the walk, and by legal sequences alone
-pub record PacketTime (p : List ℕ) (a : PacketTicks) : Type 0 where
-  pub answer : a ≡ timeOf (readOf p)
-  pub numbers : packetReport a ≡ packetReport (timeOf (readOf p))
+-- what it lasts in a session, by the framing that this has, if it is a legal one: "any other agreed rate is 12 at 0, before all else"
+abbrev pub timeIn : Option Framing → List ℕ → PacketTicks
+timeIn none p = packet.Refused (refusal unknown 0)
+timeIn (some fr) p = timeOf (readOf fr p)
+
+-- what `packet_ticks` promises in the session ses of a payload p: its answer and numbers by the walk, and by legal sequences alone
+pub record PacketTime (ses : Session) (p : List ℕ) (a : PacketTicks) : Type 0 where
+  pub answer : a ≡ timeIn (framingOf ses) p
+  pub numbers : packetReport a ≡ packetReport (timeIn (framingOf ses) p)
   -- of a legal sequence that gives p, its ticks
-  pub ticks : (fs : List Frame) → Legal fs → octetsOf fs ≡ p → packetReport a ≡ accepted (ticksIn (ticksOf fs))
+  pub ticks : (fr : Framing) → framingOf ses ≡ some fr → (fs : List Frame) → Legal fr fs → octetsOf fr fs ≡ p → packetReport a ≡ accepted (ticksIn (ticksOf fs))
   -- accepted: there is one
-  pub accepted : packetReport a .number ≡ 0 → (fs : List Frame) × Legal fs × (octetsOf fs ≡ p)
+  pub accepted : (fr : Framing) → framingOf ses ≡ some fr → packetReport a .number ≡ 0 → (fs : List Frame) × Legal fr fs × (octetsOf fr fs ≡ p)
 
 -- "refusal 12 and 0"
 abbrev pub unknownPtime : PacketMillis

@@ -1,7 +1,11 @@
 // Time: ticks of 1/8000 second on the clock, milliseconds in settings. The two are types of their own and never mix.
 ghost use mathlib.Core.Path.{_≡_};
-ghost use Rattle.clock.specs.Time.{PacketTime, Ptime, unknownPtime};
+ghost use Rattle.wire.specs.Walk.{readOf};
+ghost use Rattle.clock.specs.Time.{timeOf, PacketTime, Ptime, unknownPtime};
 use refusal::Refusal;
+use wire::Framing;
+use wire::KnownFraming;
+use wire::Session;
 use wire::Summary;
 use wire::Walked;
 
@@ -33,13 +37,27 @@ pub fn ticks_of(summary: Summary) -> Ticks
 }
 
 // The ticks of the payload's frames.
-pub fn packet_ticks(payload: &[u8]) -> PacketTicks
-    ensures { λ r. ⌜ PacketTime (now (payload .entry)) r ⌝ }
+fn packet_ticks_framed(framing: Framing, payload: &[u8]) -> PacketTicks
+    ensures { λ r. ⌜ r ≡ timeOf (readOf framing (now (payload .entry))) ⌝ }
 {
-    let walked = wire::walk(payload);
+    let walked = wire::walk(framing, payload);
     match walked {
         Walked::Whole(summary) => PacketTicks::Lasts(ticks_of(summary)),
         Walked::Refused(refusal) => PacketTicks::Refused(refusal),
+    }
+}
+
+// The ticks of the payload's frames in a session. A rate that no session has is refused before all else.
+pub fn packet_ticks(session: Session, payload: &[u8]) -> PacketTicks
+    ensures { λ r. ⌜ PacketTime session (now (payload .entry)) r ⌝ }
+{
+    let known = wire::framing_of(session);
+    match known {
+        KnownFraming::Unknown => PacketTicks::Refused(Refusal {
+            number: refusal::UNKNOWN,
+            place: 0,
+        }),
+        KnownFraming::Is(framing) => packet_ticks_framed(framing, payload),
     }
 }
 

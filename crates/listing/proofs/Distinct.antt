@@ -9,6 +9,7 @@ use lib.ListN.{length}
 use Rattle.wire.specs.Frame.{Frame}
 use Rattle.clock.specs.Time.{ticksOf}
 use Rattle.wire.specs.Walk.{Walk, at, refused, readOf}
+use Rattle.wire.specs.declared.Framing.the-variants.{Unframed}
 use Rattle.wire.proofs.Ranges.{in-range}
 use Rattle.octets.specs.Octet.{Octets}
 use Rattle.octets.proofs.Order.{below-or}
@@ -72,13 +73,13 @@ lines-differ n m a b x y q =
     omega arith
 
 -- the line of a payload that is refused is that of no accepted one, whatever the numbers of the two
-pub refused-line : (p q : List ℕ) (n m k place u : ℕ) (behind fs : List Frame) → readOf p ≡ refused k place behind → readOf q ≡ at u fs
+pub refused-line : (p q : List ℕ) (n m k place u : ℕ) (behind fs : List Frame) → readOf Unframed p ≡ refused k place behind → readOf Unframed q ≡ at u fs
     → payloadLine n p ≡ payloadLine m q → ⊥
 refused-line p q n m k place u behind fs ep eq e =
     lines-differ n m k place (length fs) (ticksOf fs) (sym (ap (lineOf n) ep) ∙ e ∙ ap (lineOf m) eq)
 
 -- an empty payload among them
-pub refused-not-empty : (p : List ℕ) (n m k place : ℕ) (behind : List Frame) → readOf p ≡ refused k place behind → payloadLine n p ≡ payloadLine m [] → ⊥
+pub refused-not-empty : (p : List ℕ) (n m k place : ℕ) (behind : List Frame) → readOf Unframed p ≡ refused k place behind → payloadLine n p ≡ payloadLine m [] → ⊥
 unfolding readOf
 refused-not-empty p n m k place behind ep e = refused-line p [] n m k place 0 behind [] ep refl e
 
@@ -90,7 +91,7 @@ same-number w n m a b x y la lx q =
     let d : decimal a ≡ decimal x = before-space (decimal a) (decimal x) _ _ (decimal-plain a) (decimal-plain x) s in
     sym (decimal-value a la) ∙ ap (valueFrom 0) d ∙ decimal-value x lx
 
-pub frames-not-empty : (p : List ℕ) (n m : ℕ) (fs : List Frame) → readOf p ≡ at 0 fs → 1 ≤ length fs → length fs ≤ 200
+pub frames-not-empty : (p : List ℕ) (n m : ℕ) (fs : List Frame) → readOf Unframed p ≡ at 0 fs → 1 ≤ length fs → length fs ≤ 200
     → payloadLine n p ≡ payloadLine m [] → ⊥
 unfolding readOf
 frames-not-empty p n m fs ep h l e =
@@ -99,12 +100,12 @@ frames-not-empty p n m fs ep h l e =
 
 -- a payload whose line is that of a refusal is refused by its number
 pub line-refusal : (p : List ℕ) (n m k place : ℕ) → Octets p → k < 18446744073709551616 → payloadLine n p ≡ lineWith m refusedWord k place
-    → (q : ℕ) × (behind : List Frame) × (readOf p ≡ refused k q behind)
-line-refusal p n m k place o h e = go (readOf p) refl e
+    → (q : ℕ) × (behind : List Frame) × (readOf Unframed p ≡ refused k q behind)
+line-refusal p n m k place o h e = go (readOf Unframed p) refl e
   where
-    go : (w : Walk) → readOf p ≡ w → lineOf n w ≡ lineWith m refusedWord k place → (q : ℕ) × (behind : List Frame) × (readOf p ≡ refused k q behind)
+    go : (w : Walk) → readOf Unframed p ≡ w → lineOf n w ≡ lineWith m refusedWord k place → (q : ℕ) × (behind : List Frame) × (readOf Unframed p ≡ refused k q behind)
     go (at u fs) q d = absurd (lines-differ m n k place (length fs) (ticksOf fs) (sym d))
     go (refused j i behind) q d =
-        let r = in-range p j i behind o q in
+        let r = in-range Unframed p j i behind o q in
         let z : j ≡ k = same-number (114 ∷ 101 ∷ 102 ∷ 117 ∷ 115 ∷ 101 ∷ 100 ∷ 32 ∷ []) n m j i k place (omega (arith, r .0)) h d in
         (i, behind, q ∙ ap (λ (x : ℕ). refused x i behind) z)

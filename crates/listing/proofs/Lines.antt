@@ -10,6 +10,7 @@ use Rattle.refusal.specs.declared.Refusal.{Refusal}
 use Rattle.octets.specs.Octet.{Octets}
 use Rattle.wire.specs.Walk.{Walk, at, refused, readOf}
 use Rattle.wire.specs.Answers.{walkedOf}
+use Rattle.wire.specs.declared.Framing.the-variants.{Unframed}
 use Rattle.wire.specs.declared.Summary.{Summary}
 use Rattle.wire.specs.declared.Walked.{Walked}
 use Rattle.wire.specs.declared.Walked.the-variants.{Whole, Refused}
@@ -75,25 +76,25 @@ with-long n w x y h =
     )
 
 pub line-long : (n : ℕ) (p : List ℕ) → length (payloadLine n p) ≤ 71
-line-long n p = go (readOf p)
+line-long n p = go (readOf Unframed p)
   where
     go : (w : Walk) → length (lineOf n w) ≤ 71
     go (at u fs) = with-long n okWord (length fs) (ticksOf fs) (omega arith)
     go (refused k place behind) = with-long n refusedWord k place (omega arith)
 
 -- the line of a payload
-module _ {o : List ℕ} {a : ℕ} (n : ℕ) (p : List ℕ) (os : Octets p) (x y : ℕ) {c : Walked} (q : c ≡ walkedOf (readOf p)) {e : List ℕ} {r : ℕ} where
+module _ {o : List ℕ} {a : ℕ} (n : ℕ) (p : List ℕ) (os : Octets p) (x y : ℕ) {c : Walked} (q : c ≡ walkedOf (readOf Unframed p)) {e : List ℕ} {r : ℕ} where
   pub payload-whole : (s : Summary) → c ≡ Whole s → {t : Ticks} → t ≡ record { 0 = s .ticks } → x ≡ s .frames → y ≡ t .0
       → Stored o a (lineWith n okWord x y) e r → Stored o a (payloadLine n p) e r
   payload-whole s w et ex ey =
-      let g = went p os q s w in
+      let g = went Unframed p os q s w in
       let ef = ex ∙ ap (λ (z : Summary). z .frames) (g .1) in
       let eu = ey ∙ ap (λ (z : Ticks). z .0) et ∙ ap (λ (z : Summary). z .ticks) (g .1) in
       stored-same (rw (ef, eu) (ap (lineOf n) (sym (g .0 .reads))))
 
   pub payload-refused : (f : Refusal) → c ≡ Refused f → x ≡ f .number → y ≡ f .place → Stored o a (lineWith n refusedWord x y) e r
       → Stored o a (payloadLine n p) e r
-  payload-refused f w ex ey = stored-same (rw (ex, ey) (ap (lineOf n) (sym (stopped p os q f w .reads))))
+  payload-refused f w ex ey = stored-same (rw (ex, ey) (ap (lineOf n) (sym (stopped Unframed p os q f w .reads))))
 
 -- ---- a last line
 

@@ -5,6 +5,7 @@ use Prim.Native.Nat.{ℕ, zero, suc, _+_, _/_, _%_}
 use lib.Dec.{ltb}
 use lib.ListN.{length}
 use Rattle.wire.specs.Walk.{Walk, at, refused, readOf}
+use Rattle.wire.specs.declared.Framing.the-variants.{Unframed}
 use Rattle.clock.specs.Time.{ticksOf}
 
 -- the decimal digits of n, highest first, no leading zero; k digits are enough for it
@@ -45,9 +46,9 @@ abbrev pub lineOf : ℕ → Walk → List ℕ
 lineOf n (at u fs) = lineWith n okWord (length fs) (ticksOf fs)
 lineOf n (refused k place behind) = lineWith n refusedWord k place
 
--- the line of the payload p, which has the number n
+-- the line of the payload p, which has the number n, read as framing not agreed
 abbrev pub payloadLine : ℕ → List ℕ → List ℕ
-payloadLine n p = lineOf n (readOf p)
+payloadLine n p = lineOf n (readOf Unframed p)
 
 -- a word and a number, and the line's end
 abbrev pub lastLine : List ℕ → ℕ → List ℕ

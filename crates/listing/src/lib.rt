@@ -11,6 +11,7 @@ ghost use Rattle.listing.specs.Answers.{ListsPart, Closes};
 ghost use Rattle.listing.specs.Steps.{Stored, stageOf, Ready, Reaches, Advances, Answered};
 use leb128::Group;
 use refusal::Refusal;
+use wire::Framing;
 use wire::Walked;
 
 const MOST_OCTETS: usize = 1400;
@@ -116,12 +117,12 @@ fn wide(x: usize) -> u64
     x as u64
 }
 
-// Stores the line of the payload with the number n at an index of out, and answers the index behind it.
+// Stores the line of the payload with the number n at an index of out, and answers the index behind it. It is read as framing not agreed.
 fn put_payload_line(out: &mut [u8], at: usize, n: u64, payload: &[u8]) -> usize
     requires { ⌜ at + 71 ≤ length (now out) ⌝ }
     ensures { λ r. ⌜ Stored (now (out .entry)) at (payloadLine n (now (payload .entry))) (now (out .exit)) r ⌝ }
 {
-    let walked = wire::walk(payload);
+    let walked = wire::walk(Framing::Unframed, payload);
     match walked {
         Walked::Whole(summary) => {
             let ticks = clock::ticks_of(summary);

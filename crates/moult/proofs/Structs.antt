@@ -9,14 +9,15 @@ use lib.ListN.{length, take, drop, length-drop}
 use lib.Seq.{length-take-le}
 use borrow.Author.Tests.{le-leb, lt-leb}
 use Rattle.octets.specs.Octet.{Octets}
-use Rattle.wire.specs.Frame.{table, row, kindOf}
-use Rattle.wire.specs.Walk.{readOf}
+use Rattle.wire.specs.Frame.{table, row, kindOf, framingOf}
 use Rattle.wire.specs.Answers.{known, KindKnown, shapeOf}
+use Rattle.wire.specs.declared.Session.{Session}
+use Rattle.wire.specs.declared.Framing.the-variants.{Unframed}
 use Rattle.wire.specs.declared.Kind.{Kind}
 use Rattle.wire.specs.declared.Known.{Known}
 use Rattle.wire.specs.declared.Known.the-variants.{Unknown, Is}
 use Rattle.wire.specs.declared.Shape.{Shape}
-use Rattle.views.specs.View.{locationOf, augmentationOf, frameOr, partAt}
+use Rattle.views.specs.View.{locationBy, Locates, augmentationOf, frameOr, partAt}
 use Rattle.views.specs.declared.Span.{Span}
 use Rattle.views.specs.declared.Location.{Location}
 use Rattle.views.specs.declared.Location.the-variants.{At, Missing}
@@ -36,7 +37,7 @@ returned-by {structOf = f} {a = a} q h e = record { answer = a; promise = h; is 
 
 -- ---- a row's body
 
-module _ (k : Kind) (t : ℕ) {s : Shape} (e : s ≡ shapeOf (row k t)) where
+module _ (k : Kind) (t : ℕ) {s : Shape} (e : s ≡ shapeOf Unframed (row k t)) where
   least : s .entry .least ≡ table k .least
   least = ap (λ (y : Shape). y .entry .least) e
 
@@ -78,22 +79,22 @@ module _ (n t : ℕ) {r : Known} (w : KindKnown n r) where
 
 -- ---- views
 
-module _ (p : List ℕ) (row : ℕ) (o : Octets p) {q : Location} (is : q ≡ locationOf (readOf p) row) where
+module _ (ses : Session) (p : List ℕ) (row : ℕ) (o : Octets p) {q : Location} (is : Locates ses p row q) where
   -- the promises, from the part that is shown
-  augments : {x : MoultPart} → x ≡ partOf (augmentationOf q (lent 0 p)) → HostAugments p row x
+  augments : {x : MoultPart} → x ≡ partOf (augmentationOf q (lent 0 p)) → HostAugments ses p row x
   augments e =
       record {
-        answer = augmentationOf (locationOf (readOf p) row) (lent 0 p);
-        promise = augmentation-view row (lent 0 p) o _ refl;
-        is = e ∙ ap (λ (y : Location). partOf (augmentationOf y (lent 0 p))) is;
+        answer = augmentationOf (locationBy (framingOf ses) p row) (lent 0 p);
+        promise = augmentation-view ses row (lent 0 p) o _ refl;
+        is = e ∙ ap (λ (y : Location). partOf (augmentationOf y (lent 0 p))) (is .answer);
       }
 
-  shows : (s : List ℕ) {x : MoultPart} → x ≡ partOf (frameOr q (lent 0 p) (lent 1 s)) → HostShows p row s x
+  shows : (s : List ℕ) {x : MoultPart} → x ≡ partOf (frameOr q (lent 0 p) (lent 1 s)) → HostShows ses p row s x
   shows s e =
       record {
-        answer = frameOr (locationOf (readOf p) row) (lent 0 p) (lent 1 s);
-        promise = frame-view row (lent 0 p) o (lent 1 s) _ refl;
-        is = e ∙ ap (λ (y : Location). partOf (frameOr y (lent 0 p) (lent 1 s))) is;
+        answer = frameOr (locationBy (framingOf ses) p row) (lent 0 p) (lent 1 s);
+        promise = frame-view ses row (lent 0 p) o (lent 1 s) _ refl;
+        is = e ∙ ap (λ (y : Location). partOf (frameOr y (lent 0 p) (lent 1 s))) (is .answer);
       }
 
   -- a span of the payload, as the struct has it
@@ -102,17 +103,17 @@ module _ (p : List ℕ) (row : ℕ) (o : Octets p) {q : Location} (is : q ≡ lo
       let l : length (take (x .length) (drop (x .start) p)) ≡ x .length = length-take-le (x .length) (drop (x .start) p) (simp length-drop (omega arith)) in
       rw (zero-add (x .start), l)
 
-  pub augmentation-none : q ≡ Missing → HostAugments p row (record { stand_in = 0; start = 0; length = 0 })
+  pub augmentation-none : q ≡ Missing → HostAugments ses p row (record { stand_in = 0; start = 0; length = 0 })
   augmentation-none e = augments (ap (λ (y : Location). partOf (augmentationOf y (lent 0 p))) (sym e))
 
-  pub frame-none : (s : List ℕ) → q ≡ Missing → HostShows p row s (record { stand_in = 1; start = 0; length = length s })
+  pub frame-none : (s : List ℕ) → q ≡ Missing → HostShows ses p row s (record { stand_in = 1; start = 0; length = length s })
   frame-none s e = shows s (ap (λ (y : Location). partOf (frameOr y (lent 0 p) (lent 1 s))) (sym e))
 
   module _ (f a : Span) (e : q ≡ At f a) where
-    pub augmentation-there : HostAugments p row (record { stand_in = 0; start = a .start; length = a .length })
+    pub augmentation-there : HostAugments ses p row (record { stand_in = 0; start = a .start; length = a .length })
     augmentation-there =
-        augments (spanned a (within p row o is f a e .augmentation) ∙ ap (λ (y : Location). partOf (augmentationOf y (lent 0 p))) (sym e))
+        augments (spanned a (within ses p row o is f a e .augmentation) ∙ ap (λ (y : Location). partOf (augmentationOf y (lent 0 p))) (sym e))
 
-    pub frame-there : (s : List ℕ) → HostShows p row s (record { stand_in = 0; start = f .start; length = f .length })
+    pub frame-there : (s : List ℕ) → HostShows ses p row s (record { stand_in = 0; start = f .start; length = f .length })
     frame-there s =
-        shows s (spanned f (within p row o is f a e .frame) ∙ ap (λ (y : Location). partOf (frameOr y (lent 0 p) (lent 1 s))) (sym e))
+        shows s (spanned f (within ses p row o is f a e .frame) ∙ ap (λ (y : Location). partOf (frameOr y (lent 0 p) (lent 1 s))) (sym e))

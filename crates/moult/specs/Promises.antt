@@ -7,6 +7,8 @@ use lib.ListN.{length}
 use Rattle.octets.specs.Part.{Part}
 use Rattle.wire.specs.Frame.{Frame, Legal, octetsOf}
 use Rattle.wire.specs.Walk.{Walk, at, refused, readOf}
+use Rattle.wire.specs.declared.Session.{Session}
+use Rattle.wire.specs.declared.Framing.the-variants.{Unframed}
 use Rattle.reader.specs.Reading.{readingReport}
 use Rattle.reader.specs.Promise.{Reads}
 use Rattle.reader.specs.declared.Reading.{Reading}
@@ -51,40 +53,41 @@ unfoldable pub hostCount : Walk → ℤ
 hostCount (at u fs) = pos (length fs)
 hostCount (refused n place behind) = negℤ (pos n)
 
--- what `moult_count` promises of a payload p
+-- what `moult_count` promises of a payload p, as not agreed
 pub record Counted (p : List ℕ) (r : ℤ) : Type 0 where
-  pub answer : r ≡ hostCount (readOf p)
+  pub answer : r ≡ hostCount (readOf Unframed p)
   -- "0 is the empty payload and nothing else"
   pub empty : p ≡ [] → r ≡ pos 0
   pub only-empty : r ≡ pos 0 → p ≡ []
   -- of a legal sequence that gives p: its frames, 0 to 200
-  pub frames : (fs : List Frame) → Legal fs → octetsOf fs ≡ p → (r ≡ pos (length fs)) × (length fs ≤ 200)
+  pub frames : (fs : List Frame) → Legal Unframed fs → octetsOf Unframed fs ≡ p → (r ≡ pos (length fs)) × (length fs ≤ 200)
   -- of a payload that none gives: minus a refusal number, 1 to 8
-  pub negative : ((fs : List Frame) → Legal fs → octetsOf fs ≡ p → ⊥) → (n : ℕ) × (1 ≤ n) × (n ≤ 8) × (r ≡ negℤ (pos n))
+  pub negative : ((fs : List Frame) → Legal Unframed fs → octetsOf Unframed fs ≡ p → ⊥) → (n : ℕ) × (1 ≤ n) × (n ≤ 8) × (r ≡ negℤ (pos n))
 
--- what `moult_read` promises of a payload p that is read into r and b
-abbrev pub HostReads : List ℕ → List ℕ → List ℕ → MoultReading → List ℕ → List ℕ → Type 0
-HostReads p r b x r′ b′ = Returned (λ (a : Reading). Reads p r b a r′ b′) (λ (a : Reading). readingOf (readingReport a)) x
+-- what `moult_read_session` promises in the session ses of a payload p that is read into r and b. (`moult_read` promises the same of
+-- `NotAgreed`, and so do the other functions without a session.)
+abbrev pub HostReads : Session → List ℕ → List ℕ → List ℕ → MoultReading → List ℕ → List ℕ → Type 0
+HostReads ses p r b x r′ b′ = Returned (λ (a : Reading). Reads ses p r b a r′ b′) (λ (a : Reading). readingOf (readingReport a)) x
 
--- what `moult_write` promises of the rows ns and bodies bs
-abbrev pub HostWrites : List ℕ → List ℕ → List ℕ → MoultWriting → List ℕ → Type 0
-HostWrites ns bs before x after = Returned (λ (a : Writing). Writes ns bs before a after) (λ (a : Writing). writingOf (writingReport a)) x
+-- what `moult_write_session` promises of the rows ns and bodies bs
+abbrev pub HostWrites : Session → List ℕ → List ℕ → List ℕ → MoultWriting → List ℕ → Type 0
+HostWrites ses ns bs before x after = Returned (λ (a : Writing). Writes ses ns bs before a after) (λ (a : Writing). writingOf (writingReport a)) x
 
--- what `moult_packet_ticks` promises of a payload p
-abbrev pub HostTimes : List ℕ → MoultTicks → Type 0
-HostTimes p x = Returned (λ (a : PacketTicks). PacketTime p a) (λ (a : PacketTicks). ticksOf (packetReport a)) x
+-- what `moult_packet_ticks_session` promises of a payload p
+abbrev pub HostTimes : Session → List ℕ → MoultTicks → Type 0
+HostTimes ses p x = Returned (λ (a : PacketTicks). PacketTime ses p a) (λ (a : PacketTicks). ticksOf (packetReport a)) x
 
 -- what `moult_ptime` promises of a rate and n frames
 abbrev pub HostPtime : ℕ → ℕ → MoultMillis → Type 0
 HostPtime rate n x = Returned (λ (a : PacketMillis). Ptime rate n a) (λ (a : PacketMillis). millisOf (ptimeReport a)) x
 
--- what `moult_augmentation` promises of a payload p
-abbrev pub HostAugments : List ℕ → ℕ → MoultPart → Type 0
-HostAugments p row x = Returned (λ (v : Part ℕ). AugmentationView row (lent 0 p) v) partOf x
+-- what `moult_augmentation_session` promises of a payload p
+abbrev pub HostAugments : Session → List ℕ → ℕ → MoultPart → Type 0
+HostAugments ses p row x = Returned (λ (v : Part ℕ). AugmentationView ses row (lent 0 p) v) partOf x
 
--- what `moult_frame_or` promises of a payload p and a stand-in s
-abbrev pub HostShows : List ℕ → ℕ → List ℕ → MoultPart → Type 0
-HostShows p row s x = Returned (λ (v : Part ℕ). FrameView row (lent 0 p) (lent 1 s) v) partOf x
+-- what `moult_frame_or_session` promises of a payload p and a stand-in s
+abbrev pub HostShows : Session → List ℕ → ℕ → List ℕ → MoultPart → Type 0
+HostShows ses p row s x = Returned (λ (v : Part ℕ). FrameView ses row (lent 0 p) (lent 1 s) v) partOf x
 
 -- what `moult_settings_read` promises of a text
 abbrev pub HostParses : List ℕ → MoultParsed → Type 0

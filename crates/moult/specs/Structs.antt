@@ -1,13 +1,16 @@
--- The answers of the library in the structs that a C host is given: number and place of the refusal, 0 where accepted, then the values.
+-- The session that a C host says, and the library's answers in the structs that it is given: number and place of the refusal, 0 where
+-- accepted, then the values.
 use mathlib.Core.Bool.{cond, _&&_}
 use mathlib.Core.List.{List}
 use mathlib.Core.Option.{Option, none, some}
 use Prim.Native.Nat.{ℕ}
-use lib.Dec.{leb}
+use lib.Dec.{eqb, leb}
 use lib.ListN.{length}
 use Rattle.refusal.specs.Report.{Report}
 use Rattle.octets.specs.Part.{Part}
 use Rattle.wire.specs.Frame.{table, row, bodyOctets}
+use Rattle.wire.specs.declared.Session.{Session}
+use Rattle.wire.specs.declared.Session.the-variants.{NotAgreed, Agreed}
 use Rattle.wire.specs.declared.Kind.{Kind}
 use Rattle.wire.specs.declared.Summary.{Summary}
 use Rattle.clock.specs.declared.Ticks.{Ticks}
@@ -25,6 +28,11 @@ use Rattle.moult.specs.declared.MoultEntry.{MoultEntry}
 -- 0.1.0: 10,000 times the first number, 100 times the second, and the third
 abbrev pub version : ℕ
 version = 100
+
+-- docs/FORMAT.md, "Sessions": "`agreed`, 0 for not agreed and any other for agreed, and `rate`, which is not looked at where framing is not
+-- agreed"
+unfoldable pub sessionOf : ℕ → ℕ → Session
+sessionOf agreed rate = cond (eqb agreed 0) NotAgreed (Agreed rate)
 
 -- the octets of the body of a row of this kind and TC; 0 where the kind is unknown or the TC wrong for it
 unfoldable pub bodyOctetsOf : Option Kind → ℕ → ℕ

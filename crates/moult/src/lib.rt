@@ -4,7 +4,8 @@ ghost use mathlib.Core.Option.{some};
 ghost use Rattle.wire.specs.Frame.{kindOf};
 ghost use Rattle.refusal.specs.Report.{accepted, refusedWith};
 ghost use Rattle.journal.specs.Answers.{nothing};
-ghost use Rattle.moult.specs.Structs.{writingOf, entryOf, bodyOctetsOf, version};
+ghost use Rattle.wire.specs.declared.Session.the-variants.{NotAgreed};
+ghost use Rattle.moult.specs.Structs.{sessionOf, writingOf, entryOf, bodyOctetsOf, version};
 ghost use Rattle.moult.specs.Promises.{Counted, HostReads, HostWrites, HostTimes, HostPtime, HostAugments, HostShows, HostParses, HostWritesSettings, HostUnpacks, HostPacks, HostEntry, HostWritesEntry};
 use clock::PacketMillis;
 use clock::PacketTicks;
@@ -16,9 +17,11 @@ use journal::Standing;
 use reader::Reading;
 use refusal::Refusal;
 use views::Location;
+use wire::Framing;
 use wire::Kind;
 use wire::Known;
 use wire::Row;
+use wire::Session;
 use wire::Walked;
 use writer::Writing;
 
@@ -106,11 +109,21 @@ pub extern "C" fn moult_version() -> u32
     VERSION
 }
 
+// The session that a host's two numbers say; the rate is not looked at where framing is not agreed.
+fn session_of(agreed: u32, rate: u32) -> Session
+    ensures { λ r. ⌜ r ≡ sessionOf agreed rate ⌝ }
+{
+    if agreed == 0 {
+        return Session::NotAgreed;
+    }
+    Session::Agreed(rate)
+}
+
 // The octets of the body of a row of this kind, if its TC is legal; else 0.
 fn body_octets(kind: Kind, tc: u16) -> usize
     ensures { λ r. ⌜ r ≡ bodyOctetsOf (some kind) tc ⌝ }
 {
-    let shape = wire::shape_of(Row { kind, tc });
+    let shape = wire::shape_of(Framing::Unframed, Row { kind, tc });
     if shape.tc < shape.entry.least {
         return 0;
     }
@@ -137,19 +150,18 @@ pub extern "C" fn moult_body_octets(kind: u16, tc: u16) -> usize
 pub extern "C" fn moult_count(payload: &[u8]) -> i32
     ensures { λ r. ⌜ Counted (now (payload .entry)) r ⌝ }
 {
-    let walked = wire::walk(payload);
+    let walked = wire::walk(Framing::Unframed, payload);
     match walked {
         Walked::Refused(refusal) => 0 - (refusal.number as i32),
         Walked::Whole(summary) => summary.frames as i32,
     }
 }
 
-// Reads a payload into rows and bodies.
-#[no_mangle]
-pub extern "C" fn moult_read(payload: &[u8], rows: &mut [u16], bodies: &mut [u8]) -> MoultReading
-    ensures { λ r. ⌜ HostReads (now (payload .entry)) (now (rows .entry)) (now (bodies .entry)) r (now (rows .exit)) (now (bodies .exit)) ⌝ }
+// Reads a payload into rows and bodies, in a session.
+fn read_in(session: Session, payload: &[u8], rows: &mut [u16], bodies: &mut [u8]) -> MoultReading
+    ensures { λ r. ⌜ HostReads session (now (payload .entry)) (now (rows .entry)) (now (bodies .entry)) r (now (rows .exit)) (now (bodies .exit)) ⌝ }
 {
-    let answer = reader::read(payload, rows, bodies);
+    let answer = reader::read(session, payload, rows, bodies);
     match answer {
         Reading::Read(summary) => MoultReading {
             number: 0,
@@ -168,6 +180,28 @@ pub extern "C" fn moult_read(payload: &[u8], rows: &mut [u16], bodies: &mut [u8]
             ticks: 0,
         },
     }
+}
+
+// Reads a payload into rows and bodies.
+#[no_mangle]
+pub extern "C" fn moult_read(payload: &[u8], rows: &mut [u16], bodies: &mut [u8]) -> MoultReading
+    ensures { λ r. ⌜ HostReads NotAgreed (now (payload .entry)) (now (rows .entry)) (now (bodies .entry)) r (now (rows .exit)) (now (bodies .exit)) ⌝ }
+{
+    read_in(Session::NotAgreed, payload, rows, bodies)
+}
+
+// The same in a session.
+#[no_mangle]
+pub extern "C" fn moult_read_session(
+    agreed: u32,
+    rate: u32,
+    payload: &[u8],
+    rows: &mut [u16],
+    bodies: &mut [u8],
+) -> MoultReading
+    ensures { λ r. ⌜ HostReads (sessionOf agreed rate) (now (payload .entry)) (now (rows .entry)) (now (bodies .entry)) r (now (rows .exit)) (now (bodies .exit)) ⌝ }
+{
+    read_in(session_of(agreed, rate), payload, rows, bodies)
 }
 
 // So many octets, or fields, were written.
@@ -192,24 +226,44 @@ fn not_written(refusal: Refusal) -> MoultWriting
     }
 }
 
-// Writes rows and bodies as a payload.
-#[no_mangle]
-pub extern "C" fn moult_write(rows: &[u16], bodies: &[u8], out: &mut [u8]) -> MoultWriting
-    ensures { λ r. ⌜ HostWrites (now (rows .entry)) (now (bodies .entry)) (now (out .entry)) r (now (out .exit)) ⌝ }
+// Writes rows and bodies as a payload, in a session.
+fn write_in(session: Session, rows: &[u16], bodies: &[u8], out: &mut [u8]) -> MoultWriting
+    ensures { λ r. ⌜ HostWrites session (now (rows .entry)) (now (bodies .entry)) (now (out .entry)) r (now (out .exit)) ⌝ }
 {
-    let answer = writer::write(rows, bodies, out);
+    let answer = writer::write(session, rows, bodies, out);
     match answer {
         Writing::Written(octets) => written(octets),
         Writing::Refused(refusal) => not_written(refusal),
     }
 }
 
-// The ticks of a payload's frames.
+// Writes rows and bodies as a payload.
 #[no_mangle]
-pub extern "C" fn moult_packet_ticks(payload: &[u8]) -> MoultTicks
-    ensures { λ r. ⌜ HostTimes (now (payload .entry)) r ⌝ }
+pub extern "C" fn moult_write(rows: &[u16], bodies: &[u8], out: &mut [u8]) -> MoultWriting
+    ensures { λ r. ⌜ HostWrites NotAgreed (now (rows .entry)) (now (bodies .entry)) (now (out .entry)) r (now (out .exit)) ⌝ }
 {
-    let answer = clock::packet_ticks(payload);
+    write_in(Session::NotAgreed, rows, bodies, out)
+}
+
+// The same in a session.
+#[no_mangle]
+pub extern "C" fn moult_write_session(
+    agreed: u32,
+    rate: u32,
+    rows: &[u16],
+    bodies: &[u8],
+    out: &mut [u8],
+) -> MoultWriting
+    ensures { λ r. ⌜ HostWrites (sessionOf agreed rate) (now (rows .entry)) (now (bodies .entry)) (now (out .entry)) r (now (out .exit)) ⌝ }
+{
+    write_in(session_of(agreed, rate), rows, bodies, out)
+}
+
+// The ticks of a payload's frames, in a session.
+fn ticks_in(session: Session, payload: &[u8]) -> MoultTicks
+    ensures { λ r. ⌜ HostTimes session (now (payload .entry)) r ⌝ }
+{
+    let answer = clock::packet_ticks(session, payload);
     match answer {
         PacketTicks::Lasts(ticks) => MoultTicks {
             number: 0,
@@ -222,6 +276,22 @@ pub extern "C" fn moult_packet_ticks(payload: &[u8]) -> MoultTicks
             ticks: 0,
         },
     }
+}
+
+// The ticks of a payload's frames.
+#[no_mangle]
+pub extern "C" fn moult_packet_ticks(payload: &[u8]) -> MoultTicks
+    ensures { λ r. ⌜ HostTimes NotAgreed (now (payload .entry)) r ⌝ }
+{
+    ticks_in(Session::NotAgreed, payload)
+}
+
+// The same in a session.
+#[no_mangle]
+pub extern "C" fn moult_packet_ticks_session(agreed: u32, rate: u32, payload: &[u8]) -> MoultTicks
+    ensures { λ r. ⌜ HostTimes (sessionOf agreed rate) (now (payload .entry)) r ⌝ }
+{
+    ticks_in(session_of(agreed, rate), payload)
 }
 
 // The ptime of a number of frames at a rate, in milliseconds.
@@ -244,12 +314,11 @@ pub extern "C" fn moult_ptime(rate: u32, frames: usize) -> MoultMillis
     }
 }
 
-// Where a row's augmentation stands in the payload; start 0 and length 0 where there is none.
-#[no_mangle]
-pub extern "C" fn moult_augmentation(payload: &[u8], row: usize) -> MoultPart
-    ensures { λ r. ⌜ HostAugments (now (payload .entry)) row r ⌝ }
+// Where a row's augmentation stands in the payload, in a session; start 0 and length 0 where there is none.
+fn augmentation_in(session: Session, payload: &[u8], row: usize) -> MoultPart
+    ensures { λ r. ⌜ HostAugments session (now (payload .entry)) row r ⌝ }
 {
-    let location = views::locate(payload, row);
+    let location = views::locate(session, payload, row);
     match location {
         Location::Missing => MoultPart {
             stand_in: 0,
@@ -267,12 +336,32 @@ pub extern "C" fn moult_augmentation(payload: &[u8], row: usize) -> MoultPart
     }
 }
 
-// Where a row's own octets stand in the payload, or the whole stand-in, whose octets are never looked at.
+// Where a row's augmentation stands in the payload.
 #[no_mangle]
-pub extern "C" fn moult_frame_or(payload: &[u8], row: usize, stand_in: &[u8]) -> MoultPart
-    ensures { λ r. ⌜ HostShows (now (payload .entry)) row (now («stand_in» .entry)) r ⌝ }
+pub extern "C" fn moult_augmentation(payload: &[u8], row: usize) -> MoultPart
+    ensures { λ r. ⌜ HostAugments NotAgreed (now (payload .entry)) row r ⌝ }
 {
-    let location = views::locate(payload, row);
+    augmentation_in(Session::NotAgreed, payload, row)
+}
+
+// The same in a session.
+#[no_mangle]
+pub extern "C" fn moult_augmentation_session(
+    agreed: u32,
+    rate: u32,
+    payload: &[u8],
+    row: usize,
+) -> MoultPart
+    ensures { λ r. ⌜ HostAugments (sessionOf agreed rate) (now (payload .entry)) row r ⌝ }
+{
+    augmentation_in(session_of(agreed, rate), payload, row)
+}
+
+// Where a row's own octets stand in the payload, in a session, or the whole stand-in, whose octets are never looked at.
+fn frame_or_in(session: Session, payload: &[u8], row: usize, stand_in: &[u8]) -> MoultPart
+    ensures { λ r. ⌜ HostShows session (now (payload .entry)) row (now («stand_in» .entry)) r ⌝ }
+{
+    let location = views::locate(session, payload, row);
     match location {
         Location::Missing => MoultPart {
             stand_in: 1,
@@ -288,6 +377,28 @@ pub extern "C" fn moult_frame_or(payload: &[u8], row: usize, stand_in: &[u8]) ->
             length: span.length,
         },
     }
+}
+
+// Where a row's own octets stand in the payload, or the whole stand-in.
+#[no_mangle]
+pub extern "C" fn moult_frame_or(payload: &[u8], row: usize, stand_in: &[u8]) -> MoultPart
+    ensures { λ r. ⌜ HostShows NotAgreed (now (payload .entry)) row (now («stand_in» .entry)) r ⌝ }
+{
+    frame_or_in(Session::NotAgreed, payload, row, stand_in)
+}
+
+// The same in a session.
+#[no_mangle]
+pub extern "C" fn moult_frame_or_session(
+    agreed: u32,
+    rate: u32,
+    payload: &[u8],
+    row: usize,
+    stand_in: &[u8],
+) -> MoultPart
+    ensures { λ r. ⌜ HostShows (sessionOf agreed rate) (now (payload .entry)) row (now («stand_in» .entry)) r ⌝ }
+{
+    frame_or_in(session_of(agreed, rate), payload, row, stand_in)
 }
 
 // Reads a setting text.

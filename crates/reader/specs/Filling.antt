@@ -4,7 +4,10 @@ use mathlib.Core.List.{List}
 use Prim.Native.Nat.{ℕ, _+_, _-_, _*_, _≤_}
 use lib.ListN.{length, getD, set, take, drop}
 use Rattle.wire.specs.Frame.{Frame, Legal, octetsOf, bodiesOf}
+use Rattle.wire.specs.declared.Framing.{Framing}
 use Rattle.wire.specs.declared.Shape.{Shape}
+use Rattle.reader.specs.Reading.{Outcome}
+use Rattle.reader.specs.declared.Reading.{Reading}
 
 -- the body of a frame of this shape whose octets start at a
 abbrev pub bodyAt : List ℕ → ℕ → Shape → List ℕ
@@ -19,11 +22,17 @@ pub record BodyFits (p : List ℕ) (a : ℕ) (s : Shape) (n o : ℕ) : Type 0 wh
   pub coded : s .entry .code ≤ getD p (a + (s .entry .octets - 1)) 0
 
 -- a legal sequence of n frames with m octets in their bodies gives p, and r numbers and b octets have room for it
-pub record Fillable (p : List ℕ) (n m r b : ℕ) : Type 0 where
+pub record Fillable (fr : Framing) (p : List ℕ) (n m r b : ℕ) : Type 0 where
   pub fs : List Frame
-  pub legal : Legal fs
-  pub gives : octetsOf fs ≡ p
+  pub legal : Legal fr fs
+  pub gives : octetsOf fr fs ≡ p
   pub frames : n ≡ length fs
   pub octets : m ≡ length (bodiesOf fs)
   pub rows : 2 * n ≤ r
   pub bodies : m ≤ b
+
+-- the answer a and the lists r′ and b′ are those of the outcome x
+pub record CameTo (x : Outcome) (a : Reading) (r′ b′ : List ℕ) : Type 0 where
+  pub answer : a ≡ x .answer
+  pub rows : r′ ≡ x .rows
+  pub bodies : b′ ≡ x .bodies

@@ -1,15 +1,17 @@
--- What reading a payload answers, and what the lent rows and bodies hold afterwards: docs/FORMAT.md, "Reading".
+-- What reading a payload answers, and what the lent rows and bodies hold afterwards: docs/FORMAT.md, "Reading" and "Sessions".
 use mathlib.Core.Bool.{cond}
 use mathlib.Core.List.{List, _++_}
+use mathlib.Core.Option.{Option, none, some}
 use Prim.Native.Nat.{ℕ, _*_, _/_}
 use lib.Dec.{ltb}
 use lib.ListN.{length, drop}
-use Rattle.refusal.specs.Numbers.{numbersTooShort, octetsTooShort}
+use Rattle.refusal.specs.Numbers.{numbersTooShort, octetsTooShort, unknown}
 use Rattle.refusal.specs.Report.{Report, accepted, refusedWith, refusal}
 use Rattle.refusal.specs.declared.Refusal.{Refusal}
 use Rattle.wire.specs.Frame.{Frame, rowsOf, numbersOf, bodiesOf}
 use Rattle.wire.specs.Walk.{Walk, at, refused, readOf}
 use Rattle.wire.specs.Answers.{summaryOf, nothing}
+use Rattle.wire.specs.declared.Framing.{Framing}
 use Rattle.wire.specs.declared.Summary.{Summary}
 use Rattle.reader.specs.declared.Reading.{Reading}
 use Rattle.reader.specs.declared.Reading.the-variants.{Read, Refused}
@@ -51,5 +53,10 @@ outcome r b (refused n place behind) = kept r b (refusal n place)
 outcome r b (at u fs) = cond (ltb (length r / 2) (length fs)) (fewNumbers r b fs) (cond (ltb (length b) (length (bodiesOf fs))) (fewOctets r b fs) (handedOut r b fs))
 
 -- reading the payload p into the lent rows r and bodies b
-abbrev pub readInto : List ℕ → List ℕ → List ℕ → Outcome
-readInto p r b = outcome r b (readOf p)
+abbrev pub readInto : Framing → List ℕ → List ℕ → List ℕ → Outcome
+readInto fr p r b = outcome r b (readOf fr p)
+
+-- the same in a session, by the framing that it has, if it is a legal one: "any other agreed rate is 12 at 0, before all else"
+abbrev pub readIn : Option Framing → List ℕ → List ℕ → List ℕ → Outcome
+readIn none p r b = kept r b (refusal unknown 0)
+readIn (some fr) p r b = readInto fr p r b

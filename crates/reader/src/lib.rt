@@ -4,11 +4,14 @@ ghost use mathlib.Core.List.{[], _∷_};
 ghost use Prim.Native.Nat.{_+_, _*_, _≤_};
 ghost use lib.ListN.{length};
 ghost use Rattle.octets.specs.Put.{put};
-ghost use Rattle.reader.specs.Filling.{bodyAt, BodyFits, Fillable};
+ghost use Rattle.reader.specs.Filling.{bodyAt, BodyFits, Fillable, CameTo};
 ghost use Rattle.reader.specs.Reading.{readInto};
 ghost use Rattle.reader.specs.Promise.{Reads};
 use refusal::Refusal;
 use wire::Ending;
+use wire::Framing;
+use wire::KnownFraming;
+use wire::Session;
 use wire::Shape;
 use wire::Summary;
 use wire::Walked;
@@ -43,21 +46,28 @@ fn put_body(payload: &[u8], start: usize, shape: Shape, bodies: &mut [u8], at: u
 }
 
 // The rows and bodies of an accepted payload with so many frames and octets of bodies, from its last frame to its first.
-fn fill(payload: &[u8], rows: &mut [u16], bodies: &mut [u8], frames: usize, octets: usize)
-    requires { ⌜ Fillable (now payload) frames octets (length (now rows)) (length (now bodies)) ⌝ }
-    ensures { λ _. ⌜ (now (rows .exit) ≡ readInto (now (payload .entry)) (now (rows .entry)) (now (bodies .entry)) .rows)
-        × (now (bodies .exit) ≡ readInto (now (payload .entry)) (now (rows .entry)) (now (bodies .entry)) .bodies) ⌝ }
+fn fill(
+    framing: Framing,
+    payload: &[u8],
+    rows: &mut [u16],
+    bodies: &mut [u8],
+    frames: usize,
+    octets: usize,
+)
+    requires { ⌜ Fillable framing (now payload) frames octets (length (now rows)) (length (now bodies)) ⌝ }
+    ensures { λ _. ⌜ (now (rows .exit) ≡ readInto framing (now (payload .entry)) (now (rows .entry)) (now (bodies .entry)) .rows)
+        × (now (bodies .exit) ≡ readInto framing (now (payload .entry)) (now (rows .entry)) (now (bodies .entry)) .bodies) ⌝ }
 {
     let mut unread = payload.len();
     let mut index = frames;
     let mut at = octets;
     while 0 < unread {
-        let ending = wire::identify(&payload[..unread]);
+        let ending = wire::identify(framing, &payload[..unread]);
         // The walk has gone over this frame, so there is always one.
         let Ending::Names(row) = ending else {
             return;
         };
-        let shape = wire::shape_of(row);
+        let shape = wire::shape_of(framing, row);
         unread -= shape.wire;
         index -= 1;
         at -= shape.body;
@@ -67,10 +77,10 @@ fn fill(payload: &[u8], rows: &mut [u16], bodies: &mut [u8], frames: usize, octe
 }
 
 // Reads a payload. Nothing is written before the walk has accepted it and both lists are known to have room.
-pub fn read(payload: &[u8], rows: &mut [u16], bodies: &mut [u8]) -> Reading
-    ensures { λ r. ⌜ Reads (now (payload .entry)) (now (rows .entry)) (now (bodies .entry)) r (now (rows .exit)) (now (bodies .exit)) ⌝ }
+fn read_framed(framing: Framing, payload: &[u8], rows: &mut [u16], bodies: &mut [u8]) -> Reading
+    ensures { λ r. ⌜ CameTo (readInto framing (now (payload .entry)) (now (rows .entry)) (now (bodies .entry))) r (now (rows .exit)) (now (bodies .exit)) ⌝ }
 {
-    let walked = wire::walk(payload);
+    let walked = wire::walk(framing, payload);
     match walked {
         Walked::Refused(refusal) => Reading::Refused(refusal),
         Walked::Whole(summary) => {
@@ -88,8 +98,22 @@ pub fn read(payload: &[u8], rows: &mut [u16], bodies: &mut [u8]) -> Reading
                     place: octets,
                 });
             }
-            fill(payload, rows, bodies, frames, octets);
+            fill(framing, payload, rows, bodies, frames, octets);
             Reading::Read(summary)
         }
+    }
+}
+
+// Reads a payload in a session. A rate that no session has is refused before all else.
+pub fn read(session: Session, payload: &[u8], rows: &mut [u16], bodies: &mut [u8]) -> Reading
+    ensures { λ r. ⌜ Reads session (now (payload .entry)) (now (rows .entry)) (now (bodies .entry)) r (now (rows .exit)) (now (bodies .exit)) ⌝ }
+{
+    let known = wire::framing_of(session);
+    match known {
+        KnownFraming::Unknown => Reading::Refused(Refusal {
+            number: refusal::UNKNOWN,
+            place: 0,
+        }),
+        KnownFraming::Is(framing) => read_framed(framing, payload, rows, bodies),
     }
 }

@@ -1,3 +1,4 @@
+pub mod Sessions
 pub mod RoundTrips
 pub mod NotEmpty
 pub mod NotGiven

@@ -1,2 +1,3 @@
+pub mod Sessions
 pub mod NotEmpty
 pub mod Theorems

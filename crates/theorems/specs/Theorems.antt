@@ -11,6 +11,9 @@ use Rattle.octets.specs.Octet.{Octets}
 use Rattle.wire.specs.Frame.{Frame, Legal, octetsOf}
 use Rattle.wire.specs.Walk.{at, readOf}
 use Rattle.wire.specs.Answers.{endingReport, walkedReport, Identified, Walks}
+use Rattle.wire.specs.declared.Session.{Session}
+use Rattle.wire.specs.declared.Framing.{Framing}
+use Rattle.wire.specs.declared.Framing.the-variants.{Unframed}
 use Rattle.wire.specs.declared.Ending.{Ending as Named}
 use Rattle.wire.specs.declared.Walked.{Walked}
 use Rattle.reader.specs.Reading.{readingReport}
@@ -51,45 +54,45 @@ use Rattle.listing.specs.Answers.{Calls}
 use Rattle.listing.specs.Sample.{input, output}
 use Rattle.moult.specs.Promises.{Counted}
 
--- the walk, which says which refusal is given, accepts exactly the octets of legal sequences, and finds the one that gives them
+-- the walk, which says which refusal is given, accepts exactly the octets of legal sequences, and finds the one that gives them: in each legal session
 pub record WalkIsExact : Type 0 where
-  pub sound : (p : List ℕ) (fs : List Frame) → Octets p → readOf p ≡ at 0 fs → Legal fs × (octetsOf fs ≡ p)
-  pub complete : (fs : List Frame) → Legal fs → readOf (octetsOf fs) ≡ at 0 fs
-  pub unique : (fs gs : List Frame) → Legal fs → Legal gs → octetsOf fs ≡ octetsOf gs → fs ≡ gs
+  pub sound : (fr : Framing) (p : List ℕ) (fs : List Frame) → Octets p → readOf fr p ≡ at 0 fs → Legal fr fs × (octetsOf fr fs ≡ p)
+  pub complete : (fr : Framing) (fs : List Frame) → Legal fr fs → readOf fr (octetsOf fr fs) ≡ at 0 fs
+  pub unique : (fr : Framing) (fs gs : List Frame) → Legal fr fs → Legal fr gs → octetsOf fr fs ≡ octetsOf fr gs → fs ≡ gs
 
--- "5 is no longer given": not for the end of unread octets, and by no answer about a payload
+-- "5 is no longer given": not for the end of unread octets, and by no answer about a payload, in any session
 pub record FiveIsNotGiven : Type 0 where
-  pub end : (u : List ℕ) → Octets u → (a : Named) → Identified u a → endingReport (length u) a .number ≡ longCountShortRange → ⊥
-  pub walk : (p : List ℕ) → Octets p → (a : Walked) → Walks p a → walkedReport a .number ≡ longCountShortRange → ⊥
-  pub reading : (p : List ℕ) → Octets p → (r b r′ b′ : List ℕ) (a : Reading) → Reads p r b a r′ b′ → readingReport a .number ≡ longCountShortRange → ⊥
+  pub end : (fr : Framing) (u : List ℕ) → Octets u → (a : Named) → Identified fr u a → endingReport (length u) a .number ≡ longCountShortRange → ⊥
+  pub walk : (fr : Framing) (p : List ℕ) → Octets p → (a : Walked) → Walks fr p a → walkedReport a .number ≡ longCountShortRange → ⊥
+  pub reading : (ses : Session) (p : List ℕ) → Octets p → (r b r′ b′ : List ℕ) (a : Reading) → Reads ses p r b a r′ b′ → readingReport a .number ≡ longCountShortRange → ⊥
   pub count : (p : List ℕ) → Octets p → (a : ℤ) → Counted p a → a ≡ negℤ (pos longCountShortRange) → ⊥
-  pub time : (p : List ℕ) → Octets p → (a : PacketTicks) → PacketTime p a → packetReport a .number ≡ longCountShortRange → ⊥
+  pub time : (ses : Session) (p : List ℕ) → Octets p → (a : PacketTicks) → PacketTime ses p a → packetReport a .number ≡ longCountShortRange → ⊥
   pub line : (p : List ℕ) → Octets p → (n m place : ℕ) → payloadLine n p ≡ lineWith m refusedWord longCountShortRange place → ⊥
 
--- "Reading and writing undo each other, both ways": of any two calls that keep the promises of `read` and `write`
+-- "Reading and writing undo each other, both ways": of any two calls in the same session that keep the promises of `read` and `write`
 pub record ReadingUndoesWriting : Type 0 where
   -- rows ns and bodies bs were written, and the octets written are read into r and b, which have room: the rows and bodies come back, and
   -- what r and b held beyond them stays
-  pub read : (ns bs out left : List ℕ) (w : Writing) → Writes ns bs out w left → writingReport w .number ≡ 0
-      → (r b r′ b′ : List ℕ) (a : Reading) → Reads (take (writingReport w .value) left) r b a r′ b′ → length ns ≤ length r → length bs ≤ length b
+  pub read : (ses : Session) (ns bs out left : List ℕ) (w : Writing) → Writes ses ns bs out w left → writingReport w .number ≡ 0
+      → (r b r′ b′ : List ℕ) (a : Reading) → Reads ses (take (writingReport w .value) left) r b a r′ b′ → length ns ≤ length r → length bs ≤ length b
       → (readingReport a .number ≡ 0) × (r′ ≡ ns ++ drop (length ns) r) × (b′ ≡ bs ++ drop (length bs) b)
   -- the payload p was read, and the rows and bodies handed out are written into a buffer that has room: the payload comes back
-  pub written : (p r b r′ b′ : List ℕ) (a : Reading) → Reads p r b a r′ b′ → readingReport a .number ≡ 0
-      → (out left : List ℕ) (w : Writing) → Writes (take (2 * readingReport a .value .frames) r′) (take (readingReport a .value .octets) b′) out w left
+  pub written : (ses : Session) (p r b r′ b′ : List ℕ) (a : Reading) → Reads ses p r b a r′ b′ → readingReport a .number ≡ 0
+      → (out left : List ℕ) (w : Writing) → Writes ses (take (2 * readingReport a .value .frames) r′) (take (readingReport a .value .octets) b′) out w left
       → length p ≤ length out → (writingReport w ≡ accepted (length p)) × (left ≡ p ++ drop (length p) out)
 
--- "The P lines form a single table, proved by one statement"
+-- "The P lines form a single table, proved by one statement": of document 01, so where framing is not agreed
 abbrev pub BenchPayloads : Type 0
-BenchPayloads = map (λ (line : List ℕ × Gives). givesOf (readOf (line .0))) payloads ≡ map (λ (line : List ℕ × Gives). line .1) payloads
+BenchPayloads = map (λ (line : List ℕ × Gives). givesOf (readOf Unframed (line .0))) payloads ≡ map (λ (line : List ℕ × Gives). line .1) payloads
 
 -- "113 and 158": five and seven frames at 2400
 pub record PtimesDecided : Type 0 where
   pub five : ptimeOf 2400 5 ≡ accepted (millisIn 113)
   pub seven : ptimeOf 2400 7 ≡ accepted (millisIn 158)
 
--- the views of all rows, one after another, are the payload
+-- the views of all rows, one after another, are the payload: in each legal session
 abbrev pub ViewsJoin : Type 0
-ViewsJoin = (p s : List ℕ) (fs : List Frame) → Legal fs → octetsOf fs ≡ p → shownOf p s (length fs) ≡ p
+ViewsJoin = (fr : Framing) (p s : List ℕ) (fs : List Frame) → Legal fr fs → octetsOf fr fs ≡ p → shownOf fr p s (length fs) ≡ p
 
 -- setting texts
 pub record SettingsAreExact : Type 0 where

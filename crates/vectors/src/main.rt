@@ -11,6 +11,7 @@ mod list_cases;
 mod lists;
 mod print;
 mod read_cases;
+mod session_cases;
 mod settings_cases;
 mod text;
 mod time_cases;
@@ -19,6 +20,7 @@ mod write_cases;
 
 use libc::STDIN_FILENO;
 use text::Form;
+use wire::Session;
 
 // The most numbers in front of a colon: those of a case to write, its room and 375 rows.
 const MOST_NUMBERS: usize = 751;
@@ -26,11 +28,17 @@ const MOST_NUMBERS: usize = 751;
 // Runs a case by its name, the numbers in front of the colon and the text behind it.
 fn run_case(name: &[u8], head: &[usize], data: &[u8]) {
     if check::same(name, b"read") {
-        read_cases::read(head, data);
+        read_cases::read(Session::NotAgreed, head, data);
     } else if check::same(name, b"view") {
-        view_cases::view(head, data);
+        view_cases::view(Session::NotAgreed, head, data);
     } else if check::same(name, b"write") {
-        write_cases::write(head, data);
+        write_cases::write(Session::NotAgreed, head, data);
+    } else if check::same(name, b"session_read") {
+        session_cases::read(head, data);
+    } else if check::same(name, b"session_view") {
+        session_cases::view(head, data);
+    } else if check::same(name, b"session_write") {
+        session_cases::write(head, data);
     } else if check::same(name, b"settings_read") {
         settings_cases::read(data);
     } else if check::same(name, b"settings_write") {

@@ -5,6 +5,7 @@ use crate::print;
 use crate::text::Form;
 use clock::PacketTicks;
 use reader::Reading;
+use wire::Session;
 
 // The most room that is lent.
 const MOST_NUMBERS: usize = 410;
@@ -23,25 +24,25 @@ fn say_reading(answer: Reading) {
     }
 }
 
-fn say_ticks(payload: &[u8]) {
-    let lasts = clock::packet_ticks(payload);
+fn say_ticks(session: Session, payload: &[u8]) {
+    let lasts = clock::packet_ticks(session, payload);
     match lasts {
         PacketTicks::Refused(r) => print::refused(r),
         PacketTicks::Lasts(ticks) => print::number(ticks.0),
     }
 }
 
-fn read_into(payload: &[u8], rows: &mut [u16], bodies: &mut [u8]) {
-    say_reading(reader::read(payload, rows, bodies));
+fn read_into(session: Session, payload: &[u8], rows: &mut [u16], bodies: &mut [u8]) {
+    say_reading(reader::read(session, payload, rows, bodies));
     print::say(b";");
     print::numbers(rows);
     print::say(b";");
     print::octets(bodies);
     print::say(b"; lasts");
-    say_ticks(payload);
+    say_ticks(session, payload);
 }
 
-pub(crate) fn read(head: &[usize], data: &[u8]) {
+pub(crate) fn read(session: Session, head: &[usize], data: &[u8]) {
     let mut payload = [0u8; MOST_PAYLOAD];
     let n = lists::octets(&mut payload, data, Form::Octets);
     let numbers = lists::value(head, 0);
@@ -53,6 +54,7 @@ pub(crate) fn read(head: &[usize], data: &[u8]) {
     let mut rows = [99u16; MOST_NUMBERS];
     let mut bodies = [0xeeu8; MOST_OCTETS];
     read_into(
+        session,
         &payload[0..n],
         &mut rows[0..numbers],
         &mut bodies[0..octets],

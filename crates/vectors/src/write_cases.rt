@@ -5,6 +5,7 @@ use crate::lists::BEHIND;
 use crate::lists::MOST_PAYLOAD;
 use crate::print;
 use crate::text::Form;
+use wire::Session;
 use writer::Writing;
 
 // The most numbers of rows, and the most room that is lent.
@@ -12,10 +13,10 @@ const MOST_NUMBERS: usize = 750;
 
 const MOST_OCTETS: usize = 1410;
 
-fn write_into(rows: &[u16], bodies: &[u8], out: &mut [u8], octets: usize)
+fn write_into(session: Session, rows: &[u16], bodies: &[u8], out: &mut [u8], octets: usize)
     requires { ⌜ octets ≤ 1410 ⌝ }
 {
-    let answer = writer::write(rows, bodies, lists::front_room(out, octets));
+    let answer = writer::write(session, rows, bodies, lists::front_room(out, octets));
     match answer {
         Writing::Refused(r) => print::refused(r),
         Writing::Written(n) => print::number(n),
@@ -24,7 +25,7 @@ fn write_into(rows: &[u16], bodies: &[u8], out: &mut [u8], octets: usize)
     print::octets(lists::front(out, octets + BEHIND));
 }
 
-pub(crate) fn write(head: &[usize], data: &[u8]) {
+pub(crate) fn write(session: Session, head: &[usize], data: &[u8]) {
     if head.len() < 1 {
         print::malformed();
         return;
@@ -39,5 +40,11 @@ pub(crate) fn write(head: &[usize], data: &[u8]) {
         return;
     }
     let mut out = [0xeeu8; MOST_OCTETS + BEHIND];
-    write_into(&rows[0..n], lists::front(&bodies, m), &mut out, octets);
+    write_into(
+        session,
+        &rows[0..n],
+        lists::front(&bodies, m),
+        &mut out,
+        octets,
+    );
 }

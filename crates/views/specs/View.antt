@@ -1,13 +1,16 @@
--- docs/FORMAT.md, "Views": where the frame of a row stands in a payload, and the parts of lent memory that are shown of it.
+-- docs/FORMAT.md, "Views" and "Sessions": where the frame of a row stands in a payload, and the parts of lent memory that are shown of it.
 use mathlib.Core.Path.{_≡_}
 use mathlib.Core.Bool.{Bool, true, false, cond, not}
 use mathlib.Core.List.{List, [], _∷_, _++_}
+use mathlib.Core.Option.{Option, none, some}
 use Prim.Native.Nat.{ℕ, zero, suc, _+_, _≤_}
 use lib.Dec.{eqb}
 use lib.ListN.{length, take, drop}
 use Rattle.octets.specs.Part.{Part, part, emptyPart}
-use Rattle.wire.specs.Frame.{Frame, table, base, wireOctets, wire, octetsOf, rowsOf, Legal}
+use Rattle.wire.specs.Frame.{Frame, table, framingOf, base, wireOctets, wire, octetsOf, rowsOf, Legal}
 use Rattle.wire.specs.Walk.{Walk, at, refused, readOf}
+use Rattle.wire.specs.declared.Session.{Session}
+use Rattle.wire.specs.declared.Framing.{Framing}
 use Rattle.wire.specs.declared.Entry.{Entry}
 use Rattle.wire.specs.declared.Row.{Row}
 use Rattle.views.specs.declared.Span.{Span}
@@ -48,6 +51,11 @@ unfoldable pub locationOf : Walk → ℕ → Location
 locationOf (refused n place behind) i = Missing
 locationOf (at u fs) i = locationIn 0 (rowsOf fs) i
 
+-- the same of a payload p in a session; missing too where "any other agreed rate" is refused, "before all else"
+abbrev pub locationBy : Option Framing → List ℕ → ℕ → Location
+locationBy none p i = Missing
+locationBy (some fr) p i = locationOf (readOf fr p) i
+
 -- the values of a location: where the frame and its augmentation stand
 pub record Spans : Type 0 where
   pub frame : Span
@@ -61,22 +69,23 @@ locationValues Missing = record { frame = emptySpan; augmentation = emptySpan }
 -- ---- what legal sequences say of a row
 
 -- a legal sequence gives the payload p, and f is its frame of this row, with the frames gs before it
-pub record HasRow (p : List ℕ) (row : ℕ) (gs : List Frame) (f : Frame) : Type 0 where
+pub record HasRow (fr : Framing) (p : List ℕ) (row : ℕ) (gs : List Frame) (f : Frame) : Type 0 where
   pub behind : List Frame
-  pub legal : Legal (gs ++ (f ∷ behind))
-  pub gives : octetsOf (gs ++ (f ∷ behind)) ≡ p
+  pub legal : Legal fr (gs ++ (f ∷ behind))
+  pub gives : octetsOf fr (gs ++ (f ∷ behind)) ≡ p
   pub number : row ≡ length gs
 
 -- the payload p has no such row: no legal sequence gives it, or the one that does has too few frames
-abbrev pub NoRow : List ℕ → ℕ → Type 0
-NoRow p row = (fs : List Frame) → Legal fs → octetsOf fs ≡ p → length fs ≤ row
+abbrev pub NoRow : Framing → List ℕ → ℕ → Type 0
+NoRow fr p row = (fs : List Frame) → Legal fr fs → octetsOf fr fs ≡ p → length fs ≤ row
 
--- what `locate` promises of a payload p
-pub record Locates (p : List ℕ) (row : ℕ) (r : Location) : Type 0 where
-  pub answer : r ≡ locationOf (readOf p) row
-  pub values : locationValues r ≡ locationValues (locationOf (readOf p) row)
-  pub found : (gs : List Frame) (f : Frame) → HasRow p row gs f → r ≡ locationAt (length (octetsOf gs)) (f .row)
-  pub missing : NoRow p row → r ≡ Missing
+-- what `locate` promises of a payload p in a session
+pub record Locates (ses : Session) (p : List ℕ) (row : ℕ) (r : Location) : Type 0 where
+  pub answer : r ≡ locationBy (framingOf ses) p row
+  pub values : locationValues r ≡ locationValues (locationBy (framingOf ses) p row)
+  pub found : (fr : Framing) → framingOf ses ≡ some fr → (gs : List Frame) (f : Frame) → HasRow fr p row gs f
+      → r ≡ locationAt (length (octetsOf fr gs)) (f .row)
+  pub missing : (fr : Framing) → framingOf ses ≡ some fr → NoRow fr p row → r ≡ Missing
 
 -- ---- the views
 
@@ -93,33 +102,36 @@ abbrev pub frameOr : {A : Type 0} → Location → Part A → Part A → Part A
 frameOr (At f a) p s = partAt f p
 frameOr Missing p s = s
 
--- what `augmentation` promises of a payload p and the part r that it returns
-pub record AugmentationView {A : Type 0} (row : ℕ) (p r : Part A) : Type 0 where
-  pub answer : r ≡ augmentationOf (locationOf (readOf (p .octets)) row) p
+-- what `augmentation` promises of a payload p in a session and the part r that it returns
+pub record AugmentationView {A : Type 0} (ses : Session) (row : ℕ) (p r : Part A) : Type 0 where
+  pub answer : r ≡ augmentationOf (locationBy (framingOf ses) (p .octets) row) p
   -- of a frame whose kind has augmentation: what stands in its body behind the base, where it stands in the payload
-  pub shown : (gs : List Frame) (f : Frame) → HasRow (p .octets) row gs f → isAugmented (table (f .row .kind)) ≡ true
-      → r ≡ record { block = p .block; start = p .start + (length (octetsOf gs) + base (f .row)); octets = drop (base (f .row)) (f .body) }
+  pub shown : (fr : Framing) → framingOf ses ≡ some fr → (gs : List Frame) (f : Frame) → HasRow fr (p .octets) row gs f
+      → isAugmented (table (f .row .kind)) ≡ true
+      → r ≡ record { block = p .block; start = p .start + (length (octetsOf fr gs) + base (f .row)); octets = drop (base (f .row)) (f .body) }
   -- of any other
-  pub none : (gs : List Frame) (f : Frame) → HasRow (p .octets) row gs f → isAugmented (table (f .row .kind)) ≡ false → r ≡ emptyPart p
+  pub none : (fr : Framing) → framingOf ses ≡ some fr → (gs : List Frame) (f : Frame) → HasRow fr (p .octets) row gs f
+      → isAugmented (table (f .row .kind)) ≡ false → r ≡ emptyPart p
   -- of either: all of its body that stands behind the base
-  pub all : (gs : List Frame) (f : Frame) → HasRow (p .octets) row gs f → r .octets ≡ drop (base (f .row)) (f .body)
-  pub missing : NoRow (p .octets) row → r ≡ emptyPart p
+  pub all : (fr : Framing) → framingOf ses ≡ some fr → (gs : List Frame) (f : Frame) → HasRow fr (p .octets) row gs f
+      → r .octets ≡ drop (base (f .row)) (f .body)
+  pub missing : (fr : Framing) → framingOf ses ≡ some fr → NoRow fr (p .octets) row → r ≡ emptyPart p
 
--- what `frame_or` promises of a payload p, a stand-in s and the part r that it returns
-pub record FrameView {A : Type 0} (row : ℕ) (p s r : Part A) : Type 0 where
-  pub answer : r ≡ frameOr (locationOf (readOf (p .octets)) row) p s
+-- what `frame_or` promises of a payload p in a session, a stand-in s and the part r that it returns
+pub record FrameView {A : Type 0} (ses : Session) (row : ℕ) (p s r : Part A) : Type 0 where
+  pub answer : r ≡ frameOr (locationBy (framingOf ses) (p .octets) row) p s
   -- the frame's octets, where they stand in the payload
-  pub shown : (gs : List Frame) (f : Frame) → HasRow (p .octets) row gs f
-      → r ≡ record { block = p .block; start = p .start + length (octetsOf gs); octets = wire f }
-  pub missing : NoRow (p .octets) row → r ≡ s
+  pub shown : (fr : Framing) → framingOf ses ≡ some fr → (gs : List Frame) (f : Frame) → HasRow fr (p .octets) row gs f
+      → r ≡ record { block = p .block; start = p .start + length (octetsOf fr gs); octets = wire fr f }
+  pub missing : (fr : Framing) → framingOf ses ≡ some fr → NoRow fr (p .octets) row → r ≡ s
 
 -- what `augmentation` promises, of the code's pointers
-abbrev pub AugmentationShown : {A : Type 0} → ℕ → A → ℕ → List ℕ → A → ℕ → List ℕ → Type 0
-AugmentationShown row pb pa p rb ra r = AugmentationView row (part pb pa p) (part rb ra r)
+abbrev pub AugmentationShown : {A : Type 0} → Session → ℕ → A → ℕ → List ℕ → A → ℕ → List ℕ → Type 0
+AugmentationShown ses row pb pa p rb ra r = AugmentationView ses row (part pb pa p) (part rb ra r)
 
 -- what `frame_or` promises, of the code's pointers
-abbrev pub FrameShown : {A : Type 0} → ℕ → A → ℕ → List ℕ → A → ℕ → List ℕ → A → ℕ → List ℕ → Type 0
-FrameShown row pb pa p sb sa s rb ra r = FrameView row (part pb pa p) (part sb sa s) (part rb ra r)
+abbrev pub FrameShown : {A : Type 0} → Session → ℕ → A → ℕ → List ℕ → A → ℕ → List ℕ → A → ℕ → List ℕ → Type 0
+FrameShown ses row pb pa p sb sa s rb ra r = FrameView ses row (part pb pa p) (part sb sa s) (part rb ra r)
 
 -- ---- the views of all rows, one after another
 
@@ -128,6 +140,6 @@ abbrev pub alone : List ℕ → Part (Unit {0})
 alone xs = record { block = tt; start = 0; octets = xs }
 
 -- the octets of the views of the first n rows, of the payload p and the stand-in s
-unfoldable pub shownOf : List ℕ → List ℕ → ℕ → List ℕ
-shownOf p s zero = []
-shownOf p s (suc n) = shownOf p s n ++ frameOr (locationOf (readOf p) n) (alone p) (alone s) .octets
+unfoldable pub shownOf : Framing → List ℕ → List ℕ → ℕ → List ℕ
+shownOf fr p s zero = []
+shownOf fr p s (suc n) = shownOf fr p s n ++ frameOr (locationOf (readOf fr p) n) (alone p) (alone s) .octets

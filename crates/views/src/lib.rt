@@ -8,6 +8,9 @@ ghost use Rattle.views.specs.View.{span, augmentationAt, locationOf, Loc
 ghost use Rattle.views.specs.StepBack.{Holds};
 ghost use Rattle.views.specs.declared.Location.the-variants.{At};
 use wire::Ending;
+use wire::Framing;
+use wire::KnownFraming;
+use wire::Session;
 use wire::Shape;
 use wire::Walked;
 
@@ -54,21 +57,21 @@ fn location_at(start: usize, shape: Shape) -> Location
 }
 
 // The location of a row in a payload that is known to hold so many frames: back from its end, frame by frame.
-fn step_back(payload: &[u8], row: usize, frames: usize) -> Location
-    requires { ⌜ Holds (now payload) frames × (row < frames) ⌝ }
-    ensures { λ r. ⌜ r ≡ locationOf (readOf (now (payload .entry))) row ⌝ }
+fn step_back(framing: Framing, payload: &[u8], row: usize, frames: usize) -> Location
+    requires { ⌜ Holds framing (now payload) frames × (row < frames) ⌝ }
+    ensures { λ r. ⌜ r ≡ locationOf (readOf framing (now (payload .entry))) row ⌝ }
 {
     let mut unread = payload.len();
     let mut rows = frames;
     loop {
-        let ending = wire::identify(&payload[..unread]);
+        let ending = wire::identify(framing, &payload[..unread]);
         match ending {
             // Not reached: the unread octets of such a payload end in a frame.
             Ending::Refused(_) => {
                 return Location::Missing;
             }
             Ending::Names(named) => {
-                let shape = wire::shape_of(named);
+                let shape = wire::shape_of(framing, named);
                 unread -= shape.wire;
                 rows -= 1;
                 if rows == row {
@@ -79,11 +82,11 @@ fn step_back(payload: &[u8], row: usize, frames: usize) -> Location
     }
 }
 
-// Where the frame of a row stands in the payload: the numbers behind both views.
-pub fn locate(payload: &[u8], row: usize) -> Location
-    ensures { λ r. ⌜ Locates (now (payload .entry)) row r ⌝ }
+// Where the frame of a row stands in a payload of a legal session.
+fn locate_framed(framing: Framing, payload: &[u8], row: usize) -> Location
+    ensures { λ r. ⌜ r ≡ locationOf (readOf framing (now (payload .entry))) row ⌝ }
 {
-    let walked = wire::walk(payload);
+    let walked = wire::walk(framing, payload);
     match walked {
         Walked::Refused(_) => Location::Missing,
         Walked::Whole(summary) => {
@@ -91,8 +94,19 @@ pub fn locate(payload: &[u8], row: usize) -> Location
             if frames <= row {
                 return Location::Missing;
             }
-            step_back(payload, row, frames)
+            step_back(framing, payload, row, frames)
         }
+    }
+}
+
+// Where the frame of a row stands in the payload: the numbers behind both views. Missing too where the agreed rate is unknown.
+pub fn locate(session: Session, payload: &[u8], row: usize) -> Location
+    ensures { λ r. ⌜ Locates session (now (payload .entry)) row r ⌝ }
+{
+    let known = wire::framing_of(session);
+    match known {
+        KnownFraming::Unknown => Location::Missing,
+        KnownFraming::Is(framing) => locate_framed(framing, payload, row),
     }
 }
 
@@ -107,10 +121,10 @@ fn part_of(payload: &[u8], span: Span) -> &[u8]
 }
 
 // The row's augmentation as a part of the payload; the empty part at its start where there is none.
-pub fn augmentation(payload: &[u8], row: usize) -> &[u8]
-    ensures { λ r. ⌜ AugmentationShown row (payload .entry .ptr .0) (payload .entry .ptr .1) (now (payload .entry)) (r .ptr .0) (r .ptr .1) (now r) ⌝ }
+pub fn augmentation(session: Session, payload: &[u8], row: usize) -> &[u8]
+    ensures { λ r. ⌜ AugmentationShown session row (payload .entry .ptr .0) (payload .entry .ptr .1) (now (payload .entry)) (r .ptr .0) (r .ptr .1) (now r) ⌝ }
 {
-    let location = locate(payload, row);
+    let location = locate(session, payload, row);
     match location {
         Location::Missing => &payload[..0],
         Location::At {
@@ -120,12 +134,12 @@ pub fn augmentation(payload: &[u8], row: usize) -> &[u8]
     }
 }
 
-// The row's own octets on the wire as a part of the payload; the whole stand-in where the payload is refused or the row
-// is missing.
-pub fn frame_or<'a>(payload: &'a [u8], row: usize, stand_in: &'a [u8]) -> &'a [u8]
-    ensures { λ r. ⌜ FrameShown row (payload .entry .ptr .0) (payload .entry .ptr .1) (now (payload .entry)) («stand_in» .entry .ptr .0) («stand_in» .entry .ptr .1) (now («stand_in» .entry)) (r .ptr .0) (r .ptr .1) (now r) ⌝ }
+// The row's own octets on the wire as a part of the payload; the whole stand-in where the agreed rate is unknown, the payload
+// is refused or the row is missing.
+pub fn frame_or<'a>(session: Session, payload: &'a [u8], row: usize, stand_in: &'a [u8]) -> &'a [u8]
+    ensures { λ r. ⌜ FrameShown session row (payload .entry .ptr .0) (payload .entry .ptr .1) (now (payload .entry)) («stand_in» .entry .ptr .0) («stand_in» .entry .ptr .1) (now («stand_in» .entry)) (r .ptr .0) (r .ptr .1) (now r) ⌝ }
 {
-    let location = locate(payload, row);
+    let location = locate(session, payload, row);
     match location {
         Location::Missing => stand_in,
         Location::At {

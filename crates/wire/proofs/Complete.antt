@@ -3,60 +3,23 @@ use mathlib.Core.Path.{_≡_, refl, sym, ap, _∙_}
 use mathlib.Core.List.{List, [], _∷_, _++_, append-assoc, append-nil}
 use Prim.Native.Nat.{ℕ, zero, suc, _+_, _-_, _≤_, _<_}
 use native.Mathlib.Omega.{arith}
+use lib.Dec.{T}
 use lib.ListN.{length, length-append}
 use lib.Seq.{drop-at, take-append-le}
 use borrow.Author.Tests.{le-ltb}
-use Rattle.wire.specs.Frame.{Frame, LegalRow, LegalBody, LegalBodies, base, rate, bodyOctets, wireOctets, wire, octetsOf, rowsOf, OfRate, Stands, Legal}
+use Rattle.wire.specs.Frame.{Frame, LegalRow, LegalBody, LegalBodies, agreedRate, AgreedOn, base, rate, bodyOctets, wireOctets, wire, octetsOf, rowsOf, OfRate, Stands, Legal}
 use Rattle.wire.specs.Walk.{lastFrame, beside, rateOf, over, next, frameAt, run, readOf, at}
+use Rattle.wire.specs.declared.Framing.{Framing}
 use Rattle.wire.specs.declared.Ending.{Ending}
 use Rattle.wire.proofs.TableLaws.{bounds}
 use Rattle.wire.proofs.Octets.{in-place, length-wire, wire-body, length-octets}
-use Rattle.wire.proofs.Rates.{beside-stands}
+use Rattle.wire.proofs.Rates.{stands-agrees, beside-stands}
+use Rattle.wire.proofs.NameLaws.{agrees}
 use Rattle.wire.proofs.ReadBack.{InPlace, last-wire}
-
-pub next-at : (p : List ℕ) (u : ℕ) (behind : List Frame) → 1 ≤ u
-    → next p (at u behind) ≡ over p u behind (beside (length behind) (rateOf (rowsOf behind)) (lastFrame p u))
-next-at p zero behind h = absurd (omega arith)
-next-at p (suc u) behind h = refl
 
 pub length-rows : (fs : List Frame) → length (rowsOf fs) ≡ length fs
 length-rows [] = refl
 length-rows (f ∷ fs) = ap suc (length-rows fs)
-
-module _ (q rest : List ℕ) (f : Frame) (legal : LegalRow (f .row)) (body : LegalBody (f .row) (f .body)) where
-  placed : InPlace (q ++ (wire f ++ rest)) (length q + wireOctets (f .row)) (length q) (f .row) (f .body)
-  placed = record {
-    legal = legal;
-    size = body .size;
-    end = body .end;
-    unread = refl;
-    reads = λ i h. in-place q (wire f) rest i (rw (length-wire (f .row) (f .body) (body .size)) h);
-  }
-
-  -- the frame is read back where its octets start
-  back-body : frameAt (q ++ (wire f ++ rest)) (length q) (f .row) .body ≡ f .body
-  back-body =
-      let b = bounds (f .row .kind) in
-      let l : length (wire f) ≡ wireOctets (f .row) = length-wire (f .row) (f .body) (body .size) in
-      let e : base (f .row) - 1 < length (wire f) = omega arith in
-      rw (drop-at q (wire f ++ rest) (length q) refl, take-append-le (bodyOctets (f .row)) (wire f) rest (omega arith), in-place q (wire f) rest (base (f .row) - 1) e)
-      (wire-body (f .row) (f .body) (body .size))
-
-  back : frameAt (q ++ (wire f ++ rest)) (length q) (f .row) ≡ f
-  back = λ i. record { row = f .row; body = back-body i }
-
-  one-frame : (r : ℕ) (behind : List Frame) → Stands r (rate (f .row)) (rowsOf behind) → OfRate r (rowsOf behind)
-      → next (q ++ (wire f ++ rest)) (at (length q + wireOctets (f .row)) behind) ≡ at (length q) (f ∷ behind)
-  one-frame r behind s o =
-      let b = bounds (f .row .kind) in
-      let p : List ℕ = q ++ (wire f ++ rest) in
-      let u : ℕ = length q + wireOctets (f .row) in
-      let e : u - wireOctets (f .row) ≡ length q = omega arith in
-      next-at p u behind (omega arith)
-      ∙ ap (λ (x : Ending). over p u behind (beside (length behind) (rateOf (rowsOf behind)) x)) (last-wire p u (length q) (f .row) (f .body) placed)
-      ∙ ap (over p u behind) (rw length-rows at (beside-stands (f .row) (rowsOf behind) r s o))
-      ∙ ap (λ (a : ℕ). at a (frameAt p a (f .row) ∷ behind)) e
-      ∙ ap (λ (g : Frame). at (length q) (g ∷ behind)) back
 
 -- ---- a sequence, from its end
 
@@ -72,61 +35,108 @@ pub from-end : (fs : List Frame) → Snoc fs
 from-end [] = none
 from-end (f ∷ fs) = snoc-cons f (from-end fs)
 
-pub octets-append : (fs gs : List Frame) → octetsOf (fs ++ gs) ≡ octetsOf fs ++ octetsOf gs
-octets-append [] gs = refl
-octets-append (f ∷ fs) gs = rw (octets-append fs gs) (sym (append-assoc (wire f) (octetsOf fs) (octetsOf gs)))
+module _ (fr : Framing) where
+  -- ---- a frame
 
--- what holds of a frame in the middle
-pub record Middle (r : ℕ) (g : Frame) (behind : List Frame) : Type 0 where
-  pub legal : LegalRow (g .row)
-  pub body : LegalBody (g .row) (g .body)
-  pub stands : Stands r (rate (g .row)) (rowsOf behind)
-  pub rated : OfRate r (rowsOf behind)
+  pub next-at : (p : List ℕ) (u : ℕ) (behind : List Frame) → 1 ≤ u
+      → next fr p (at u behind) ≡ over fr p u behind (beside (length behind) (rateOf (agreedRate fr) (rowsOf behind)) (lastFrame fr p u))
+  next-at p zero behind h = absurd (omega arith)
+  next-at p (suc u) behind h = refl
 
-pub middle : (r : ℕ) (gs : List Frame) (g : Frame) (behind : List Frame) → OfRate r (rowsOf (gs ++ (g ∷ behind))) → LegalBodies (gs ++ (g ∷ behind)) → Middle r g behind
-middle r [] g behind o b = record { legal = o .0; body = b .0; stands = o .1; rated = o .2 }
-middle r (f ∷ gs) g behind o b = middle r gs g behind (o .2) (b .1)
+  module _ (q rest : List ℕ) (f : Frame) (legal : LegalRow (f .row)) (body : LegalBody fr (f .row) (f .body)) (agree : T (agrees fr (f .row .kind))) where
+    placed : InPlace fr (q ++ (wire fr f ++ rest)) (length q + wireOctets (f .row)) (length q) (f .row) (f .body)
+    placed = record {
+      legal = legal;
+      agrees = agree;
+      size = body .size;
+      end = body .end;
+      unread = refl;
+      reads = λ i h. in-place q (wire fr f) rest i (rw (length-wire fr (f .row) (f .body) (body .size)) h);
+    }
 
-pub stay : (n : ℕ) (p : List ℕ) (fs : List Frame) → run n p (at 0 fs) ≡ at 0 fs
-stay zero p fs = refl
-stay (suc n) p fs = stay n p fs
+    -- the frame is read back where its octets start
+    back-body : frameAt fr (q ++ (wire fr f ++ rest)) (length q) (f .row) .body ≡ f .body
+    back-body =
+        let b = bounds (f .row .kind) in
+        let l : length (wire fr f) ≡ wireOctets (f .row) = length-wire fr (f .row) (f .body) (body .size) in
+        let e : base (f .row) - 1 < length (wire fr f) = omega arith in
+        rw (drop-at q (wire fr f ++ rest) (length q) refl, take-append-le (bodyOctets (f .row)) (wire fr f) rest (omega arith), in-place q (wire fr f) rest (base (f .row) - 1) e)
+        (wire-body fr (f .row) (f .body) (body .size))
 
-pub octets-snoc : (gs : List Frame) (g : Frame) → octetsOf (gs ++ (g ∷ [])) ≡ octetsOf gs ++ wire g
-octets-snoc gs g = octets-append gs (g ∷ []) ∙ ap (λ (w : List ℕ). octetsOf gs ++ w) (append-nil (wire g))
+    back : frameAt fr (q ++ (wire fr f ++ rest)) (length q) (f .row) ≡ f
+    back = λ i. record { row = f .row; body = back-body i }
 
-length-snoc : (gs : List Frame) (g : Frame) → LegalBody (g .row) (g .body) → length (octetsOf (gs ++ (g ∷ []))) ≡ length (octetsOf gs) + wireOctets (g .row)
-length-snoc gs g h = rw (octets-snoc gs g) (simp (length-append (octetsOf gs) (wire g), length-wire (g .row) (g .body) (h .size)))
+    one-frame : (r : ℕ) (behind : List Frame) → AgreedOn fr r → Stands r (rate (f .row)) (rowsOf behind) → OfRate r (rowsOf behind)
+        → next fr (q ++ (wire fr f ++ rest)) (at (length q + wireOctets (f .row)) behind) ≡ at (length q) (f ∷ behind)
+    one-frame r behind a s o =
+        let b = bounds (f .row .kind) in
+        let p : List ℕ = q ++ (wire fr f ++ rest) in
+        let u : ℕ = length q + wireOctets (f .row) in
+        let e : u - wireOctets (f .row) ≡ length q = omega arith in
+        next-at p u behind (omega arith)
+        ∙ ap (λ (x : Ending). over fr p u behind (beside (length behind) (rateOf (agreedRate fr) (rowsOf behind)) x)) (last-wire fr p u (length q) (f .row) (f .body) placed)
+        ∙ ap (over fr p u behind) (rw length-rows at (beside-stands fr (f .row) (rowsOf behind) r a s o))
+        ∙ ap (λ (a : ℕ). at a (frameAt fr p a (f .row) ∷ behind)) e
+        ∙ ap (λ (g : Frame). at (length q) (g ∷ behind)) back
 
-walked : {fs : List Frame} → Snoc fs → (n : ℕ) (p rest : List ℕ) (behind : List Frame) (r : ℕ)
-    → p ≡ octetsOf fs ++ rest → length (octetsOf fs) ≤ n → OfRate r (rowsOf (fs ++ behind)) → LegalBodies (fs ++ behind)
-    → run n p (at (length (octetsOf fs)) behind) ≡ at 0 (fs ++ behind)
-walked none n p rest behind r e l o b = stay n p behind
-walked (snoc {gs} v g) zero p rest behind r e l o b =
-    let m = middle r gs g behind (rw append-assoc at o) (rw append-assoc at b) in
-    let w = bounds (g .row .kind) in
-    absurd (omega (arith, length-snoc gs g (m .body)))
-walked (snoc {gs} v g) (suc n) p rest behind r e l o b =
-    let o₂ : OfRate r (rowsOf (gs ++ (g ∷ behind))) = rw append-assoc at o in
-    let b₂ : LegalBodies (gs ++ (g ∷ behind)) = rw append-assoc at b in
-    let m = middle r gs g behind o₂ b₂ in
-    let w = bounds (g .row .kind) in
-    let len = length-snoc gs g (m .body) in
-    let e₂ : p ≡ octetsOf gs ++ (wire g ++ rest) =
-    e ∙ ap (λ (w : List ℕ). w ++ rest) (octets-snoc gs g) ∙ append-assoc (octetsOf gs) (wire g) rest in
-    let step : next p (at (length (octetsOf (gs ++ (g ∷ [])))) behind) ≡ at (length (octetsOf gs)) (g ∷ behind) =
-    rw (e₂, len) (one-frame (octetsOf gs) rest g (m .legal) (m .body) r behind (m .stands) (m .rated)) in
-    ap (run n p) step
-    ∙ walked v n p (wire g ++ rest) (g ∷ behind) r e₂ (omega arith) o₂ b₂
-    ∙ ap (at 0) (sym (append-assoc gs (g ∷ []) behind))
+  -- ---- a sequence
 
-pub complete : (fs : List Frame) → Legal fs → readOf (octetsOf fs) ≡ at 0 fs
-unfolding readOf
-complete fs l =
-    simp (le-ltb 1400 (length (octetsOf fs)) (omega (arith, length-octets fs (l .bodies), l .rows .total)))
-    (walked (from-end fs) (length (octetsOf fs)) (octetsOf fs) [] [] (l .rows .common) (sym (append-nil (octetsOf fs))) (omega arith) (rw append-nil (l .rows .rated)) (rw append-nil (l .bodies))
-    ∙ ap (at 0) (append-nil fs))
+  pub octets-append : (fs gs : List Frame) → octetsOf fr (fs ++ gs) ≡ octetsOf fr fs ++ octetsOf fr gs
+  octets-append [] gs = refl
+  octets-append (f ∷ fs) gs = rw (octets-append fs gs) (sym (append-assoc (wire fr f) (octetsOf fr fs) (octetsOf fr gs)))
 
-pub unique : (fs gs : List Frame) → Legal fs → Legal gs → octetsOf fs ≡ octetsOf gs → fs ≡ gs
-unique fs gs hf hg e =
-    let same : at 0 fs ≡ at 0 gs = sym (complete fs hf) ∙ ap readOf e ∙ complete gs hg in
-    cc
+  -- what holds of a frame in the middle
+  pub record Middle (r : ℕ) (g : Frame) (behind : List Frame) : Type 0 where
+    pub legal : LegalRow (g .row)
+    pub agrees : T (agrees fr (g .row .kind))
+    pub body : LegalBody fr (g .row) (g .body)
+    pub stands : Stands r (rate (g .row)) (rowsOf behind)
+    pub rated : OfRate r (rowsOf behind)
+
+  pub middle : (r : ℕ) → AgreedOn fr r → (gs : List Frame) (g : Frame) (behind : List Frame) → OfRate r (rowsOf (gs ++ (g ∷ behind))) → LegalBodies fr (gs ++ (g ∷ behind)) → Middle r g behind
+  middle r a [] g behind o b = record { legal = o .0; agrees = stands-agrees fr r (g .row) (rowsOf behind) a (o .1); body = b .0; stands = o .1; rated = o .2 }
+  middle r a (f ∷ gs) g behind o b = middle r a gs g behind (o .2) (b .1)
+
+  pub stay : (n : ℕ) (p : List ℕ) (fs : List Frame) → run fr n p (at 0 fs) ≡ at 0 fs
+  stay zero p fs = refl
+  stay (suc n) p fs = stay n p fs
+
+  pub octets-snoc : (gs : List Frame) (g : Frame) → octetsOf fr (gs ++ (g ∷ [])) ≡ octetsOf fr gs ++ wire fr g
+  octets-snoc gs g = octets-append gs (g ∷ []) ∙ ap (λ (w : List ℕ). octetsOf fr gs ++ w) (append-nil (wire fr g))
+
+  length-snoc : (gs : List Frame) (g : Frame) → LegalBody fr (g .row) (g .body) → length (octetsOf fr (gs ++ (g ∷ []))) ≡ length (octetsOf fr gs) + wireOctets (g .row)
+  length-snoc gs g h = rw (octets-snoc gs g) (simp (length-append (octetsOf fr gs) (wire fr g), length-wire fr (g .row) (g .body) (h .size)))
+
+  walked : {fs : List Frame} → Snoc fs → (n : ℕ) (p rest : List ℕ) (behind : List Frame) (r : ℕ)
+      → p ≡ octetsOf fr fs ++ rest → length (octetsOf fr fs) ≤ n → AgreedOn fr r → OfRate r (rowsOf (fs ++ behind)) → LegalBodies fr (fs ++ behind)
+      → run fr n p (at (length (octetsOf fr fs)) behind) ≡ at 0 (fs ++ behind)
+  walked none n p rest behind r e l a o b = stay n p behind
+  walked (snoc {gs} v g) zero p rest behind r e l a o b =
+      let m = middle r a gs g behind (rw append-assoc at o) (rw append-assoc at b) in
+      let w = bounds (g .row .kind) in
+      absurd (omega (arith, length-snoc gs g (m .body)))
+  walked (snoc {gs} v g) (suc n) p rest behind r e l a o b =
+      let o₂ : OfRate r (rowsOf (gs ++ (g ∷ behind))) = rw append-assoc at o in
+      let b₂ : LegalBodies fr (gs ++ (g ∷ behind)) = rw append-assoc at b in
+      let m = middle r a gs g behind o₂ b₂ in
+      let w = bounds (g .row .kind) in
+      let len = length-snoc gs g (m .body) in
+      let e₂ : p ≡ octetsOf fr gs ++ (wire fr g ++ rest) =
+      e ∙ ap (λ (w : List ℕ). w ++ rest) (octets-snoc gs g) ∙ append-assoc (octetsOf fr gs) (wire fr g) rest in
+      let step : next fr p (at (length (octetsOf fr (gs ++ (g ∷ [])))) behind) ≡ at (length (octetsOf fr gs)) (g ∷ behind) =
+      rw (e₂, len) (one-frame (octetsOf fr gs) rest g (m .legal) (m .body) (m .agrees) r behind a (m .stands) (m .rated)) in
+      ap (run fr n p) step
+      ∙ walked v n p (wire fr g ++ rest) (g ∷ behind) r e₂ (omega arith) a o₂ b₂
+      ∙ ap (at 0) (sym (append-assoc gs (g ∷ []) behind))
+
+  pub complete : (fs : List Frame) → Legal fr fs → readOf fr (octetsOf fr fs) ≡ at 0 fs
+  unfolding readOf
+  complete fs l =
+      simp (le-ltb 1400 (length (octetsOf fr fs)) (omega (arith, length-octets fr fs (l .bodies), l .rows .total)))
+      (walked (from-end fs) (length (octetsOf fr fs)) (octetsOf fr fs) [] [] (l .rows .common) (sym (append-nil (octetsOf fr fs))) (omega arith) (l .rows .agreed) (rw append-nil (l .rows .rated)) (rw append-nil (l .bodies))
+      ∙ ap (at 0) (append-nil fs))
+
+  pub unique : (fs gs : List Frame) → Legal fr fs → Legal fr gs → octetsOf fr fs ≡ octetsOf fr gs → fs ≡ gs
+  unique fs gs hf hg e =
+      let same : at 0 fs ≡ at 0 gs = sym (complete fs hf) ∙ ap (readOf fr) e ∙ complete gs hg in
+      cc

@@ -10,5 +10,7 @@ pub mod FrameAtEnd
 pub mod Sound
 pub mod Ranges
 pub mod Meaning
+pub mod Sessions
 pub mod StepCases
 pub mod WalkLoop
+pub mod SessionExamples

@@ -1,17 +1,19 @@
 -- A frame beside those already read: it may stand there exactly if the walk's 6 and 8 do not refuse it. And the bounds of ticks.
-use mathlib.Core.Path.{_≡_, refl, sym, ap, _∙_}
+use mathlib.Core.Path.{_≡_, refl, sym, ap, subst, _∙_}
 use mathlib.Core.Logic.{_⊎_, inl, inr}
-use mathlib.Core.Bool.{Bool, true, false, cond}
+use mathlib.Core.Bool.{Bool, true, false, cond, _||_}
 use mathlib.Core.List.{List, [], _∷_}
 use Prim.Native.Nat.{ℕ, zero, suc, _≤_}
 use native.Mathlib.Omega.{arith}
 use native.Mathlib.Decide.{ℕ-discrete}
-use lib.Dec.{eqb}
+use lib.Dec.{T, eqb, eqb-refl}
 use lib.ListN.{length}
 use borrow.Author.Tests.{eq-eqb, ne-eqb}
-use Rattle.wire.specs.Frame.{LegalRow, Stands, OfRate, rate, ticksOfRate}
+use Rattle.wire.specs.Frame.{agreedRate, AgreedOn, LegalRow, Stands, OfRate, rate, ticksOfRate}
 use Rattle.wire.specs.Walk.{rateOf, beside}
+use Rattle.wire.specs.declared.Framing.{Framing}
 use Rattle.wire.specs.declared.Row.{Row}
+use Rattle.wire.proofs.NameLaws.{agrees}
 use Rattle.wire.specs.declared.Ending.{Ending}
 use Rattle.wire.specs.declared.Ending.the-variants.{Refused, Names}
 
@@ -55,51 +57,91 @@ coder-stands : (r s : ℕ) (behind : List Row) → (s ≡ 0 → ⊥) → s ≡ r
 coder-stands r zero behind z e = absurd (z refl)
 coder-stands r (suc s) behind z e = e
 
-rate-noise : (x : Row) (behind : List Row) → rate x ≡ 0 → rateOf (x ∷ behind) ≡ rateOf behind
-rate-noise x behind z = simp (eq-eqb (rate x) 0 z)
+module _ (r : ℕ) where
+  rate-noise : (x : Row) (behind : List Row) → rate x ≡ 0 → rateOf r (x ∷ behind) ≡ rateOf r behind
+  rate-noise x behind z = simp (eq-eqb (rate x) 0 z)
 
-rate-coder : (x : Row) (behind : List Row) → (rate x ≡ 0 → ⊥) → rateOf (x ∷ behind) ≡ rate x
-rate-coder x behind z = simp (ne-eqb (rate x) 0 z)
+  rate-coder : (x : Row) (behind : List Row) → (rate x ≡ 0 → ⊥) → rateOf r (x ∷ behind) ≡ rate x
+  rate-coder x behind z = simp (ne-eqb (rate x) 0 z)
 
--- the coder frames of a sequence of rate r are of that rate; or there are none, and it is then of any rate
-abbrev Coders : ℕ → List Row → Type 0
-Coders r xs = ((rateOf xs ≡ 0 → ⊥) × (rateOf xs ≡ r)) ⊎ ((rateOf xs ≡ 0) × ((s : ℕ) → OfRate s xs))
-
-coders : (r : ℕ) (xs : List Row) → OfRate r xs → Coders r xs
-coders r [] h = inr (refl, λ s. tt)
-coders r (x ∷ xs) h = go (either r (rate x) xs (h .1))
+-- where there are coder frames, their rate is the rate of rows, whatever it would be without them
+pub rate-read : (r : ℕ) (xs : List Row) → (rateOf 0 xs ≡ 0 → ⊥) → rateOf r xs ≡ rateOf 0 xs
+rate-read r [] h = absurd (h refl)
+rate-read r (x ∷ xs) h = go (rate-read r xs) (ℕ-discrete (rate x) 0)
   where
-    go : ((rate x ≡ 0) × (xs ≡ [])) ⊎ ((rate x ≡ 0 → ⊥) × (rate x ≡ r)) → Coders r (x ∷ xs)
-    go (inl w) = inr (rate-noise x xs (w .0) ∙ ap rateOf (w .1), λ s. (h .0, noise-stands s (rate x) xs (w .0) (w .1), rw (w .1) tt))
-    go (inr w) = let e = rate-coder x xs (w .0) in inl ((λ d. w .0 (sym e ∙ d)), e ∙ w .1)
+    go : ((rateOf 0 xs ≡ 0 → ⊥) → rateOf r xs ≡ rateOf 0 xs) → Dec (rate x ≡ 0) → rateOf r (x ∷ xs) ≡ rateOf 0 (x ∷ xs)
+    go rest (yes z) = rate-noise r x xs z ∙ rest (λ e. h (rate-noise 0 x xs z ∙ e)) ∙ sym (rate-noise 0 x xs z)
+    go rest (no z) = rate-coder r x xs z ∙ sym (rate-coder 0 x xs z)
 
 none-behind : (xs : List Row) → length xs ≡ 0 → xs ≡ []
 none-behind [] e = refl
 none-behind (y ∷ ys) e = absurd (omega arith)
 
-module _ (x : Row) (behind : List Row) where
-  -- a frame that may stand before the others is not refused beside them
-  pub beside-stands : (r : ℕ) → Stands r (rate x) behind → OfRate r behind → beside (length behind) (rateOf behind) (Names x) ≡ Names x
-  beside-stands r s h = go (either r (rate x) behind s) (coders r behind h)
-    where
-      go : ((rate x ≡ 0) × (behind ≡ [])) ⊎ ((rate x ≡ 0 → ⊥) × (rate x ≡ r)) → Coders r behind → beside (length behind) (rateOf behind) (Names x) ≡ Names x
-      go (inl w) q = noise-first (length behind) (rateOf behind) x (w .0) (ap length (w .1))
-      go (inr w) (inl q) = coder-same (length behind) (rateOf behind) x (w .0) (w .1 ∙ sym (q .1))
-      go (inr w) (inr q) = coder-first (length behind) (rateOf behind) x (w .0) (q .0)
+or-left : (a b : Bool) → T a → T (a || b)
+or-left true b t = tt
+or-left false b t = absurd t
 
-  -- a frame that is not refused beside the others makes a sequence of one rate with them
-  pub stands-beside : (r : ℕ) → LegalRow x → OfRate r behind → (y : Row) → beside (length behind) (rateOf behind) (Names x) ≡ Names y → (s : ℕ) × OfRate s (x ∷ behind)
-  stands-beside r l h y e = go (ℕ-discrete (rate x) 0) (ℕ-discrete (length behind) 0) (ℕ-discrete (rate x) (rateOf behind)) (coders r behind h)
-    where
-      wrong : (n : ℕ) → beside (length behind) (rateOf behind) (Names x) ≡ Refused n → (s : ℕ) × OfRate s (x ∷ behind)
-      wrong n d = absurd (let z : _≡_ {A = ℕ} 0 1 = cc in omega arith)
+or-right : (a b : Bool) → T b → T (a || b)
+or-right true b t = tt
+or-right false b t = t
 
-      go : Dec (rate x ≡ 0) → Dec (length behind ≡ 0) → Dec (rate x ≡ rateOf behind) → Coders r behind → (s : ℕ) × OfRate s (x ∷ behind)
-      go (yes z) (yes n) m q = (r, (l, noise-stands r (rate x) behind z (none-behind behind n), h))
-      go (yes z) (no n) m q = wrong 6 (noise-late (length behind) (rateOf behind) x z n)
-      go (no z) n m (inr q) = (rate x, (l, coder-stands (rate x) (rate x) behind z refl, q .1 (rate x)))
-      go (no z) n (yes m) (inl q) = (r, (l, coder-stands r (rate x) behind z (m ∙ q .1), h))
-      go (no z) n (no m) (inl q) = wrong 8 (coder-mixed (length behind) (rateOf behind) x z (q .0) m)
+eqb-is : (m n : ℕ) → m ≡ n → T (eqb m n)
+eqb-is m n e = subst (λ (k : ℕ). T (eqb m k)) e (eqb-refl m)
+
+module _ (fr : Framing) where
+  -- what may stand in a sequence of a rate that the session agreed on is of a kind that it leaves room for
+  pub stands-agrees : (r : ℕ) (x : Row) (behind : List Row) → AgreedOn fr r → Stands r (rate x) behind → T (agrees fr (x .kind))
+  stands-agrees r x behind a s = go a (either r (rate x) behind s)
+    where
+      go : AgreedOn fr r → ((rate x ≡ 0) × (behind ≡ [])) ⊎ ((rate x ≡ 0 → ⊥) × (rate x ≡ r)) → T (agrees fr (x .kind))
+      go (inl z) w = or-left (eqb (agreedRate fr) 0) _ (eqb-is (agreedRate fr) 0 z)
+      go (inr e) (inl w) = or-right (eqb (agreedRate fr) 0) _ (or-left (eqb (rate x) 0) _ (eqb-is (rate x) 0 (w .0)))
+      go (inr e) (inr w) = or-right (eqb (agreedRate fr) 0) _ (or-right (eqb (rate x) 0) _ (eqb-is (agreedRate fr) (rate x) (e ∙ sym (w .1))))
+
+  -- the coder frames of a sequence of rate r are of that rate; or there are none, nothing is agreed, and it is then of any rate
+  abbrev Coders : ℕ → List Row → Type 0
+  Coders r xs = ((rateOf (agreedRate fr) xs ≡ 0 → ⊥) × (rateOf (agreedRate fr) xs ≡ r)) ⊎ ((agreedRate fr ≡ 0) × (rateOf (agreedRate fr) xs ≡ 0) × ((s : ℕ) → OfRate s xs))
+
+  none-yet : (r : ℕ) (xs : List Row) → AgreedOn fr r → rateOf (agreedRate fr) xs ≡ agreedRate fr → ((s : ℕ) → OfRate s xs) → Coders r xs
+  none-yet r xs a e all = go (ℕ-discrete (agreedRate fr) 0) a
+    where
+      go : Dec (agreedRate fr ≡ 0) → AgreedOn fr r → Coders r xs
+      go (yes z) q = inr (z, e ∙ z, all)
+      go (no z) (inl q) = absurd (z q)
+      go (no z) (inr q) = inl ((λ d. z (sym e ∙ d)), e ∙ q)
+
+  coders : (r : ℕ) (xs : List Row) → AgreedOn fr r → OfRate r xs → Coders r xs
+  coders r [] a h = none-yet r [] a refl (λ s. tt)
+  coders r (x ∷ xs) a h = go (either r (rate x) xs (h .1))
+    where
+      go : ((rate x ≡ 0) × (xs ≡ [])) ⊎ ((rate x ≡ 0 → ⊥) × (rate x ≡ r)) → Coders r (x ∷ xs)
+      go (inl w) = none-yet r (x ∷ xs) a (rate-noise (agreedRate fr) x xs (w .0) ∙ ap (rateOf (agreedRate fr)) (w .1)) (λ s. (h .0, noise-stands s (rate x) xs (w .0) (w .1), rw (w .1) tt))
+      go (inr w) = let e = rate-coder (agreedRate fr) x xs (w .0) in inl ((λ d. w .0 (sym e ∙ d)), e ∙ w .1)
+
+  module _ (x : Row) (behind : List Row) where
+    -- a frame that may stand before the others is not refused beside them
+    pub beside-stands : (r : ℕ) → AgreedOn fr r → Stands r (rate x) behind → OfRate r behind → beside (length behind) (rateOf (agreedRate fr) behind) (Names x) ≡ Names x
+    beside-stands r a s h = go (either r (rate x) behind s) (coders r behind a h)
+      where
+        go : ((rate x ≡ 0) × (behind ≡ [])) ⊎ ((rate x ≡ 0 → ⊥) × (rate x ≡ r)) → Coders r behind → beside (length behind) (rateOf (agreedRate fr) behind) (Names x) ≡ Names x
+        go (inl w) q = noise-first (length behind) (rateOf (agreedRate fr) behind) x (w .0) (ap length (w .1))
+        go (inr w) (inl q) = coder-same (length behind) (rateOf (agreedRate fr) behind) x (w .0) (w .1 ∙ sym (q .1))
+        go (inr w) (inr q) = coder-first (length behind) (rateOf (agreedRate fr) behind) x (w .0) (q .1)
+
+    -- a frame that is not refused beside the others makes a sequence of one rate with them
+    pub stands-beside : (r : ℕ) → LegalRow x → AgreedOn fr r → OfRate r behind → (y : Row) → beside (length behind) (rateOf (agreedRate fr) behind) (Names x) ≡ Names y
+        → (s : ℕ) × AgreedOn fr s × OfRate s (x ∷ behind)
+    stands-beside r l a h y e = go (ℕ-discrete (rate x) 0) (ℕ-discrete (length behind) 0) (ℕ-discrete (rate x) (rateOf (agreedRate fr) behind)) (coders r behind a h)
+      where
+        wrong : (n : ℕ) → beside (length behind) (rateOf (agreedRate fr) behind) (Names x) ≡ Refused n → (s : ℕ) × AgreedOn fr s × OfRate s (x ∷ behind)
+        wrong n d = absurd (let z : _≡_ {A = ℕ} 0 1 = cc in omega arith)
+
+        go : Dec (rate x ≡ 0) → Dec (length behind ≡ 0) → Dec (rate x ≡ rateOf (agreedRate fr) behind) → Coders r behind → (s : ℕ) × AgreedOn fr s × OfRate s (x ∷ behind)
+        go (yes z) (yes n) m q = (r, a, (l, noise-stands r (rate x) behind z (none-behind behind n), h))
+        go (yes z) (no n) m q = wrong 6 (noise-late (length behind) (rateOf (agreedRate fr) behind) x z n)
+        go (no z) n m (inr q) = (rate x, inl (q .0), (l, coder-stands (rate x) (rate x) behind z refl, q .2 (rate x)))
+        go (no z) n (yes m) (inl q) = (r, a, (l, coder-stands r (rate x) behind z (m ∙ q .1), h))
+        go (no z) n (no m) (inl q) = wrong 8 (coder-mixed (length behind) (rateOf (agreedRate fr) behind) x z (q .0) m)
 
 -- what was found beside the frames read is refused, or the same
 pub beside-same : (n r : ℕ) (x y : Row) → beside n r (Names x) ≡ Names y → x ≡ y

@@ -9,7 +9,9 @@ use native.Mathlib.Omega.{arith}
 use native.Mathlib.Decide.{ℕ-discrete}
 use lib.Dec.{T, leb, eqb, leb→le, eqb→eq}
 use lib.ListN.{length}
-use Rattle.wire.specs.Frame.{kinds, table, lookUp, kindOf, isShort, countIn}
+use Rattle.wire.specs.Frame.{framings, entryIn, kinds, table, lookUp, kindOf, isShort, countIn}
+use Rattle.wire.specs.declared.Framing.{Framing}
+use Rattle.wire.specs.declared.Framing.the-variants.{Unframed, Framed2400, Framed600}
 use Rattle.wire.specs.declared.Kind.{Kind}
 use Rattle.wire.specs.declared.Kind.the-variants.{Bps2400, Bps1200, Bps600, ComfortNoise, Tsvcis, TsvcisLong}
 use Rattle.wire.specs.declared.Counting.{Counting}
@@ -55,6 +57,18 @@ found f n k (j ∷ ks) h e = go (found f n k ks (second (f j) (every f ks) h)) (
 pub at-kind : (f : Kind → Bool) → T (every f kinds) → (k : Kind) → T (f k)
 at-kind f h k = found f (table k .number) k kinds h (kind-of k)
 
+-- ---- every framing
+
+-- the test f passes at each of the framings
+abbrev pub inAll : (Framing → Bool) → List Framing → Bool
+inAll f [] = true
+inAll f (s ∷ ss) = f s && inAll f ss
+
+pub at-framing : (f : Framing → Bool) → T (inAll f framings) → (fr : Framing) → T (f fr)
+at-framing f h Unframed = first (f Unframed) (f Framed2400 && (f Framed600 && true)) h
+at-framing f h Framed2400 = first (f Framed2400) (f Framed600 && true) (second (f Unframed) (f Framed2400 && (f Framed600 && true)) h)
+at-framing f h Framed600 = first (f Framed600) true (second (f Framed2400) (f Framed600 && true) (second (f Unframed) (f Framed2400 && (f Framed600 && true)) h))
+
 -- ---- every number of a range
 
 -- the test f passes at n numbers from a on
@@ -85,6 +99,20 @@ bounds k = record {
   octet = leb→le (suc (table k .code + table k .top)) 255 (at-kind (λ (j : Kind). leb (suc (table j .code + table j .top)) 255) tt k);
   tc = leb→le (table k .most) 255 (at-kind (λ (j : Kind). leb (table j .most) 255) tt k);
 }
+
+octets-in : Framing → Kind → Bool
+octets-in fr k = leb (suc (entryIn fr (table k) .code + entryIn fr (table k) .top)) 255
+
+all-octets : T (inAll (λ (fr : Framing). every (octets-in fr) kinds) framings)
+unfolding octets-in
+all-octets = tt
+
+-- a base's last octet is below 255 in every session
+pub octet : (fr : Framing) (k : Kind) → entryIn fr (table k) .code + entryIn fr (table k) .top < 255
+unfolding octets-in
+octet fr k =
+    leb→le (suc (entryIn fr (table k) .code + entryIn fr (table k) .top)) 255
+    (at-kind (octets-in fr) (at-framing (λ (s : Framing). every (octets-in s) kinds) all-octets fr) k)
 
 pub count-most : (c : Counting) (t : ℕ) → length (countIn c t) ≤ 2
 unfolding countIn

@@ -6,8 +6,12 @@ use lib.ListN.{length}
 use mathlib.Core.Option.{Option, none, some}
 use Rattle.refusal.specs.Numbers.{unknown}
 use Rattle.refusal.specs.Report.{Report, accepted, refusedWith, refusal}
-use Rattle.wire.specs.Frame.{Frame, table, kindOf, countOf, bodyOctets, wireOctets, ticks, sumOf, rowsOf, bodiesOf, numbersOf}
+use Rattle.wire.specs.Frame.{Frame, table, kindOf, framingOf, agreedRate, entryIn, countOf, bodyOctets, wireOctets, ticks, sumOf, rowsOf, bodiesOf, numbersOf}
 use Rattle.wire.specs.Walk.{Walk, at, refused, rateOf, readOf, ending}
+use Rattle.wire.specs.declared.Session.{Session}
+use Rattle.wire.specs.declared.Framing.{Framing}
+use Rattle.wire.specs.declared.KnownFraming.{KnownFraming}
+use Rattle.wire.specs.declared.KnownFraming.the-variants as framing
 use Rattle.wire.specs.declared.Kind.{Kind}
 use Rattle.wire.specs.declared.Known.{Known}
 use Rattle.wire.specs.declared.Known.the-variants.{Unknown, Is}
@@ -41,31 +45,51 @@ pub record KindKnown (n : ℕ) (r : Known) : Type 0 where
   pub answer : r ≡ known (kindOf n)
   pub numbers : knownReport r ≡ kindReport (kindOf n)
 
+-- the framing of a session record, if it is a legal one
+abbrev pub knownFraming : Option Framing → KnownFraming
+knownFraming none = framing.Unknown
+knownFraming (some fr) = framing.Is fr
+
+-- the numbers for each case: the rate agreed, or "12 unknown rate"
+abbrev pub knownFramingReport : KnownFraming → Report ℕ
+knownFramingReport framing.Unknown = refusedWith 0 (refusal unknown 0)
+knownFramingReport (framing.Is fr) = accepted (agreedRate fr)
+
+-- the numbers of a session record
+abbrev pub framingReport : Option Framing → Report ℕ
+framingReport none = refusedWith 0 (refusal unknown 0)
+framingReport (some fr) = accepted (agreedRate fr)
+
+-- what `framing_of` promises of a session record
+pub record FramingKnown (s : Session) (r : KnownFraming) : Type 0 where
+  pub answer : r ≡ knownFraming (framingOf s)
+  pub numbers : knownFramingReport r ≡ framingReport (framingOf s)
+
 -- the numbers for what u unread octets name by their end: those of the row, or the refusal, at the octets unread
 abbrev pub endingReport : ℕ → Ending → Report (List ℕ)
 endingReport u (Refused n) = refusedWith [] (refusal n u)
 endingReport u (Names x) = accepted (numbersOf (x ∷ []))
 
 -- what `identify` promises of unread octets
-pub record Identified (unread : List ℕ) (r : Ending) : Type 0 where
-  pub answer : r ≡ ending unread (length unread)
-  pub numbers : endingReport (length unread) r ≡ endingReport (length unread) (ending unread (length unread))
+pub record Identified (fr : Framing) (unread : List ℕ) (r : Ending) : Type 0 where
+  pub answer : r ≡ ending fr unread (length unread)
+  pub numbers : endingReport (length unread) r ≡ endingReport (length unread) (ending fr unread (length unread))
 
 -- a frame's numbers, from its row
-abbrev pub shapeOf : Row → Shape
-shapeOf x = record { entry = table (x .kind); tc = x .tc; count = length (countOf x); body = bodyOctets x; wire = wireOctets x }
+abbrev pub shapeOf : Framing → Row → Shape
+shapeOf fr x = record { entry = entryIn fr (table (x .kind)); tc = x .tc; count = length (countOf x); body = bodyOctets x; wire = wireOctets x }
 
 -- what a step comes to, from what was found
-abbrev pub stepOf : Ending → Step
-stepOf (Refused n) = step.Refused n
-stepOf (Names x) = step.Over (shapeOf x)
+abbrev pub stepOf : Framing → Ending → Step
+stepOf fr (Refused n) = step.Refused n
+stepOf fr (Names x) = step.Over (shapeOf fr x)
 
--- what a sequence holds: frames, octets of their bodies, the rate of its coder frames, ticks
+-- what a sequence holds: frames, octets of their bodies, the rate of its coder frames (0 where there are none), ticks
 abbrev pub summaryOf : List Frame → Summary
 summaryOf fs = record {
   frames = length fs;
   octets = length (bodiesOf fs);
-  rate = rateOf (rowsOf fs);
+  rate = rateOf 0 (rowsOf fs);
   ticks = sumOf ticks (rowsOf fs);
 }
 
@@ -89,6 +113,6 @@ walkReport (at u fs) = accepted (summaryOf fs)
 walkReport (refused n place behind) = refusedWith nothing (refusal n place)
 
 -- what `walk` promises of a payload p
-pub record Walks (p : List ℕ) (r : Walked) : Type 0 where
-  pub answer : r ≡ walkedOf (readOf p)
-  pub numbers : walkedReport r ≡ walkReport (readOf p)
+pub record Walks (fr : Framing) (p : List ℕ) (r : Walked) : Type 0 where
+  pub answer : r ≡ walkedOf (readOf fr p)
+  pub numbers : walkedReport r ≡ walkReport (readOf fr p)

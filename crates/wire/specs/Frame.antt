@@ -1,13 +1,18 @@
--- docs/FORMAT.md, "Frames" and "Legal sequences", said forwards: the table of kinds, rows, frames, the octets that frames give, and the
--- legal sequences. Nothing here says how octets are read.
+-- docs/FORMAT.md, "Frames", "Sessions" and "Legal sequences", said forwards: the table of kinds, rows, frames, the octets that frames
+-- give, and the legal sequences. Nothing here says how octets are read.
 use mathlib.Core.Path.{_≡_}
 use mathlib.Core.Bool.{Bool, cond, _&&_, _||_}
+use mathlib.Core.Logic.{_⊎_}
 use mathlib.Core.List.{List, [], _∷_, _++_}
 use mathlib.Core.Option.{Option, none, some}
 use Prim.Native.Nat.{ℕ, zero, suc, _+_, _-_, _≤_}
-use lib.Dec.{leb, eqb}
+use lib.Dec.{leb, ltb, eqb}
 use lib.ListN.{length, getD, set}
 use Rattle.octets.specs.Octet.{Octets}
+use Rattle.wire.specs.declared.Session.{Session}
+use Rattle.wire.specs.declared.Session.the-variants.{NotAgreed, Agreed}
+use Rattle.wire.specs.declared.Framing.{Framing}
+use Rattle.wire.specs.declared.Framing.the-variants.{Unframed, Framed2400, Framed600}
 use Rattle.wire.specs.declared.Kind.{Kind}
 use Rattle.wire.specs.declared.Kind.the-variants.{Bps2400, Bps1200, Bps600, ComfortNoise, Tsvcis, TsvcisLong}
 use Rattle.wire.specs.declared.Counting.{Counting}
@@ -46,6 +51,47 @@ lookUp n (k ∷ ks) = cond (eqb (table k .number) n) (some k) (lookUp n ks)
 abbrev pub kindOf : ℕ → Option Kind
 kindOf n = lookUp n kinds
 
+-- ---- sessions
+
+-- the framings, one for each legal session record
+abbrev pub framings : List Framing
+framings = Unframed ∷ Framed2400 ∷ Framed600 ∷ []
+
+-- the framing of a session record, if it is a legal one: "framing not agreed, or agreed with the rate 2400 or 600"
+abbrev pub framingOf : Session → Option Framing
+framingOf NotAgreed = some Unframed
+framingOf (Agreed r) = cond (eqb r 2400) (some Framed2400) (cond (eqb r 600) (some Framed600) none)
+
+-- the rate agreed; 0 where framing is not
+abbrev pub agreedRate : Framing → ℕ
+agreedRate Unframed = 0
+agreedRate Framed2400 = 2400
+agreedRate Framed600 = 600
+
+-- a rate that the coder frames of a legal sequence may have: any, or where framing is agreed "that rate"
+abbrev pub AgreedOn : Framing → ℕ → Type 0
+AgreedOn fr r = (agreedRate fr ≡ 0) ⊎ (agreedRate fr ≡ r)
+
+-- "Where agreed, .. bit 55 stays in the body (last body octet at most 127, a TSVCIS base included) and is no rate code bit": of the
+-- kinds whose base ends below 128
+abbrev pub keepsBit55 : Framing → Entry → Bool
+keepsBit55 fr e = ltb 0 (agreedRate fr) && ltb (e .code + e .top) 128
+
+-- a kind's entry in a session
+abbrev pub entryIn : Framing → Entry → Entry
+entryIn fr e = record {
+  number = e .number;
+  octets = e .octets;
+  code = cond (keepsBit55 fr e) 0 (e .code);
+  top = cond (keepsBit55 fr e) 127 (e .top);
+  rate = e .rate;
+  least = e .least;
+  most = e .most;
+  counting = e .counting;
+}
+
+-- ---- counts and ticks
+
 -- the TC that a short count can say
 abbrev pub isShort : ℕ → Bool
 isShort t = leb 15 t && leb t 77
@@ -76,12 +122,12 @@ abbrev pub base : Row → ℕ
 base x = table (x .kind) .octets
 
 -- the rate code bits in the base's last octet
-abbrev pub code : Row → ℕ
-code x = table (x .kind) .code
+abbrev pub code : Framing → Row → ℕ
+code fr x = entryIn fr (table (x .kind)) .code
 
 -- the most that its body has in the base's last octet
-abbrev pub top : Row → ℕ
-top x = table (x .kind) .top
+abbrev pub top : Framing → Row → ℕ
+top fr x = entryIn fr (table (x .kind)) .top
 
 -- its rate; 0 of comfort noise
 abbrev pub rate : Row → ℕ
@@ -124,9 +170,11 @@ abbrev pub OfRate : ℕ → List Row → Type 0
 OfRate r [] = Unit {0}
 OfRate r (x ∷ behind) = LegalRow x × Stands r (rate x) behind × OfRate r behind
 
--- the rows of a "legal sequence": coder frames of one rate, then at most one comfort noise frame, at most 1,400 octets in all
-pub record LegalRows (xs : List Row) : Type 0 where
+-- the rows of a "legal sequence": coder frames of one rate, then at most one comfort noise frame, at most 1,400 octets in all; where
+-- framing is agreed, "The coder frames of a legal sequence are then all of that rate"
+pub record LegalRows (fr : Framing) (xs : List Row) : Type 0 where
   pub common : ℕ
+  pub agreed : AgreedOn fr common
   pub rated : OfRate common xs
   pub total : sumOf wireOctets xs ≤ 1400
 
@@ -138,24 +186,24 @@ pub record Frame : Type 0 where
   pub body : List ℕ
 
 -- a body "within the limits": its length, "Its last octet is at most 63, 1, 63 and 31 for kinds 1 to 4", of a TSVCIS body its
--- seventh, and octets
-pub record LegalBody (x : Row) (b : List ℕ) : Type 0 where
+-- seventh (where framing is agreed "at most 127" for 63), and octets
+pub record LegalBody (fr : Framing) (x : Row) (b : List ℕ) : Type 0 where
   pub size : length b ≡ bodyOctets x
-  pub end : getD b (base x - 1) 0 ≤ top x
+  pub end : getD b (base x - 1) 0 ≤ top fr x
   pub octets : Octets b
 
 -- "The octets of a frame": its body, with the rate code bits set in the base's last octet, then its count
-abbrev pub wireOf : Row → List ℕ → List ℕ
-wireOf x b = set b (base x - 1) (getD b (base x - 1) 0 + code x) ++ countOf x
+abbrev pub wireOf : Framing → Row → List ℕ → List ℕ
+wireOf fr x b = set b (base x - 1) (getD b (base x - 1) 0 + code fr x) ++ countOf x
 
 -- the octets of a frame
-abbrev pub wire : Frame → List ℕ
-wire f = wireOf (f .row) (f .body)
+abbrev pub wire : Framing → Frame → List ℕ
+wire fr f = wireOf fr (f .row) (f .body)
 
 -- "A sequence gives the octets of its frames one after another, oldest first"
-abbrev pub octetsOf : List Frame → List ℕ
-octetsOf [] = []
-octetsOf (f ∷ fs) = wire f ++ octetsOf fs
+abbrev pub octetsOf : Framing → List Frame → List ℕ
+octetsOf fr [] = []
+octetsOf fr (f ∷ fs) = wire fr f ++ octetsOf fr fs
 
 -- "Bodies stand one after another"
 abbrev pub bodiesOf : List Frame → List ℕ
@@ -173,11 +221,11 @@ numbersOf [] = []
 numbersOf (x ∷ xs) = table (x .kind) .number ∷ x .tc ∷ numbersOf xs
 
 -- bodies "within the limits"
-abbrev pub LegalBodies : List Frame → Type 0
-LegalBodies [] = Unit {0}
-LegalBodies (f ∷ fs) = LegalBody (f .row) (f .body) × LegalBodies fs
+abbrev pub LegalBodies : Framing → List Frame → Type 0
+LegalBodies fr [] = Unit {0}
+LegalBodies fr (f ∷ fs) = LegalBody fr (f .row) (f .body) × LegalBodies fr fs
 
 -- "legal sequence"
-pub record Legal (fs : List Frame) : Type 0 where
-  pub rows : LegalRows (rowsOf fs)
-  pub bodies : LegalBodies fs
+pub record Legal (fr : Framing) (fs : List Frame) : Type 0 where
+  pub rows : LegalRows fr (rowsOf fs)
+  pub bodies : LegalBodies fr fs

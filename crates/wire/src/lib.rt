@@ -2,14 +2,34 @@
 // front, which says what the payload holds or why it is refused.
 ghost use mathlib.Core.Path.{_≡_};
 ghost use lib.ListN.{length};
-ghost use Prim.Native.Nat.{_≤_, _<_};
-ghost use Rattle.wire.specs.Frame.{plainEntry, augmentedEntry, table, countIn, ticksOfRate};
-ghost use Rattle.wire.specs.Walk.{named, counted, whole, beside, lastFrame, readOf};
-ghost use Rattle.wire.specs.Answers.{KindKnown, Identified, shapeOf, stepOf, walkedOf, Walks};
+ghost use Prim.Native.Nat.{_+_, _≤_, _<_};
+ghost use Rattle.wire.specs.Frame.{plainEntry, augmentedEntry, table, agreedRate, entryIn, countIn, ticksOfRate};
+ghost use Rattle.wire.specs.Walk.{lowKind, named, counted, whole, beside, lastFrame, readOf};
+ghost use Rattle.wire.specs.Answers.{KindKnown, FramingKnown, Identified, shapeOf, stepOf, walkedOf, Walks};
+ghost use Rattle.wire.specs.declared.Framing.the-variants.{Unframed};
 ghost use Rattle.wire.specs.declared.Counting.the-variants.{ShortOrLong};
 use refusal::Refusal;
 
 const MOST_OCTETS: usize = 1400;
+
+// What a session says of the end-to-end framing bit: not agreed, or agreed with a rate, where any number may stand.
+pub enum Session {
+    NotAgreed,
+    Agreed(u32),
+}
+
+// The legal sessions: without a framing bit, or with one in frames of 2400 or 600 bps.
+pub enum Framing {
+    Unframed,
+    Framed2400,
+    Framed600,
+}
+
+// The framing of a session, if it is a legal one.
+pub enum KnownFraming {
+    Unknown,
+    Is(Framing),
+}
 
 // The kinds of frames.
 pub enum Kind {
@@ -151,6 +171,68 @@ pub fn kind_of(number: u16) -> Known
     }
 }
 
+// ---- sessions
+
+// The framing of a session.
+pub fn framing_of(session: Session) -> KnownFraming
+    ensures { λ r. ⌜ FramingKnown session r ⌝ }
+{
+    match session {
+        Session::NotAgreed => KnownFraming::Is(Framing::Unframed),
+        Session::Agreed(rate) => framing_at(rate),
+    }
+}
+
+// The framing that is agreed with a rate.
+fn framing_at(rate: u32) -> KnownFraming
+    ensures { λ r. ⌜ FramingKnown (Session.Agreed rate) r ⌝ }
+{
+    if rate == 2400 {
+        return KnownFraming::Is(Framing::Framed2400);
+    }
+    if rate == 600 {
+        return KnownFraming::Is(Framing::Framed600);
+    }
+    KnownFraming::Unknown
+}
+
+// The rate agreed; 0 where framing is not.
+pub fn agreed_rate(framing: Framing) -> u32
+    ensures { λ r. ⌜ r ≡ agreedRate framing ⌝ }
+{
+    match framing {
+        Framing::Unframed => 0,
+        Framing::Framed2400 => 2400,
+        Framing::Framed600 => 600,
+    }
+}
+
+// A kind's entry in a session: where framing is agreed, bit 55 is in the body and is no rate code bit.
+fn entry_in(framing: Framing, entry: Entry) -> Entry
+    requires { ⌜ entry .code + entry .top < 255 ⌝ }
+    ensures { λ r. ⌜ r ≡ entryIn framing entry ⌝ }
+{
+    if agreed_rate(framing) == 0 {
+        return entry;
+    }
+    if entry.code + entry.top < 128 {
+        let counting = entry.counting;
+        return Entry {
+            number: entry.number,
+            octets: entry.octets,
+            code: 0,
+            top: 127,
+            rate: entry.rate,
+            least: entry.least,
+            most: entry.most,
+            counting,
+        };
+    }
+    entry
+}
+
+// ---- a frame's numbers
+
 // The octets of a count of `tc`.
 fn count_octets(counting: Counting, tc: usize) -> usize
     ensures { λ r. ⌜ r ≡ length (countIn counting tc) ⌝ }
@@ -176,12 +258,12 @@ fn short_or_long(tc: usize) -> usize
 }
 
 // The numbers of a frame of this row.
-pub fn shape_of(row: Row) -> Shape
-    ensures { λ r. ⌜ r ≡ shapeOf row ⌝ }
+pub fn shape_of(framing: Framing, row: Row) -> Shape
+    ensures { λ r. ⌜ r ≡ shapeOf framing row ⌝ }
 {
     let kind = row.kind;
     let tc = row.tc as usize;
-    let entry = entry_of(kind);
+    let entry = entry_in(framing, entry_of(kind));
     let counting = entry.counting;
     let count = count_octets(counting, tc);
     let body = entry.octets + tc;
@@ -212,22 +294,35 @@ pub fn ticks_of_rate(rate: u32) -> u32
 
 // ---- the frame that octets end in
 
-// What a last octet below 255 names.
-fn last_octet(x: u8) -> Ending
-    requires { ⌜ x < 255 ⌝ }
-    ensures { λ r. ⌜ r ≡ named x ⌝ }
+// The kind that a last octet below 128 names.
+fn low_kind(framing: Framing, x: u8) -> Kind
+    ensures { λ r. ⌜ r ≡ lowKind framing x ⌝ }
+{
+    match framing {
+        Framing::Unframed => unframed_kind(x),
+        Framing::Framed2400 => Kind::Bps2400,
+        Framing::Framed600 => Kind::Bps600,
+    }
+}
+
+// The same without a framing bit: bit 6 says the rate.
+fn unframed_kind(x: u8) -> Kind
+    ensures { λ r. ⌜ r ≡ lowKind Unframed x ⌝ }
 {
     if x < 64 {
-        return Ending::Names(Row {
-            kind: Kind::Bps2400,
-            tc: 0,
-        });
+        return Kind::Bps2400;
     }
+    Kind::Bps600
+}
+
+// What a last octet below 255 names.
+fn last_octet(framing: Framing, x: u8) -> Ending
+    requires { ⌜ x < 255 ⌝ }
+    ensures { λ r. ⌜ r ≡ named framing x ⌝ }
+{
     if x < 128 {
-        return Ending::Names(Row {
-            kind: Kind::Bps600,
-            tc: 0,
-        });
+        let kind = low_kind(framing, x);
+        return Ending::Names(Row { kind, tc: 0 });
     }
     if x < 130 {
         return Ending::Names(Row {
@@ -277,8 +372,8 @@ fn long_count(tc: u8) -> Ending
 }
 
 // The frame that unread octets name by their end, whole or not.
-pub fn identify(unread: &[u8]) -> Ending
-    ensures { λ r. ⌜ Identified (now (unread .entry)) r ⌝ }
+pub fn identify(framing: Framing, unread: &[u8]) -> Ending
+    ensures { λ r. ⌜ Identified framing (now (unread .entry)) r ⌝ }
 {
     let n = unread.len();
     if n == 0 {
@@ -286,7 +381,7 @@ pub fn identify(unread: &[u8]) -> Ending
     }
     let x = unread[n - 1];
     if x < 255 {
-        return last_octet(x);
+        return last_octet(framing, x);
     }
     if n == 1 {
         return Ending::Refused(refusal::FRAME_CUT);
@@ -297,11 +392,11 @@ pub fn identify(unread: &[u8]) -> Ending
 // ---- the walk
 
 // The step over the frame of this row at the end of the unread octets: if it is whole, if its base ends as one of its kind does, and if
-// it may stand before the frames already read, of which there are so many, with coder frames of this rate (0: none).
-fn admit(unread: &[u8], row: Row, frames: usize, rate: u32) -> Step
-    ensures { λ r. ⌜ r ≡ stepOf (beside frames rate (whole (now (unread .entry)) (length (now (unread .entry))) (Ending.Names row))) ⌝ }
+// it may stand before the frames already read, of which there are so many, in a sequence of this rate (0: of any).
+fn admit(framing: Framing, unread: &[u8], row: Row, frames: usize, rate: u32) -> Step
+    ensures { λ r. ⌜ r ≡ stepOf framing (beside frames rate (whole framing (now (unread .entry)) (length (now (unread .entry))) (Ending.Names row))) ⌝ }
 {
-    let shape = shape_of(row);
+    let shape = shape_of(framing, row);
     let n = unread.len();
     let wire = shape.wire;
     if n < wire {
@@ -326,33 +421,17 @@ fn admit(unread: &[u8], row: Row, frames: usize, rate: u32) -> Step
     Step::Refused(refusal::RATES_MIXED)
 }
 
-// What a last octet below 128 names.
-fn low_row(x: u8) -> Row
-    requires { ⌜ x < 128 ⌝ }
-    ensures { λ r. ⌜ Ending.Names r ≡ named x ⌝ }
-{
-    if x < 64 {
-        return Row {
-            kind: Kind::Bps2400,
-            tc: 0,
-        };
-    }
-    Row {
-        kind: Kind::Bps600,
-        tc: 0,
-    }
-}
-
 // The step over the frame that the unread octets end in. The commonest ends, which one octet names, go ahead by themselves.
-fn next_frame(unread: &[u8], frames: usize, rate: u32) -> Step
-    ensures { λ r. ⌜ r ≡ stepOf (beside frames rate (lastFrame (now (unread .entry)) (length (now (unread .entry))))) ⌝ }
+fn next_frame(framing: Framing, unread: &[u8], frames: usize, rate: u32) -> Step
+    ensures { λ r. ⌜ r ≡ stepOf framing (beside frames rate (lastFrame framing (now (unread .entry)) (length (now (unread .entry))))) ⌝ }
 {
     let n = unread.len();
     if 0 < n {
         let x = unread[n - 1];
         if x < 128 {
-            let row = low_row(x);
-            return admit(unread, row, frames, rate);
+            let kind = low_kind(framing, x);
+            let row = Row { kind, tc: 0 };
+            return admit(framing, unread, row, frames, rate);
         }
         if 159 < x {
             if x < 192 {
@@ -360,7 +439,7 @@ fn next_frame(unread: &[u8], frames: usize, rate: u32) -> Step
                     kind: Kind::ComfortNoise,
                     tc: 0,
                 };
-                return admit(unread, row, frames, rate);
+                return admit(framing, unread, row, frames, rate);
             }
             if x < 255 {
                 let short = (x as u16) - 177;
@@ -368,29 +447,31 @@ fn next_frame(unread: &[u8], frames: usize, rate: u32) -> Step
                     kind: Kind::Tsvcis,
                     tc: short,
                 };
-                return admit(unread, row, frames, rate);
+                return admit(framing, unread, row, frames, rate);
             }
         }
     }
-    let ending = identify(unread);
+    let ending = identify(framing, unread);
     match ending {
         Ending::Refused(number) => Step::Refused(number),
-        Ending::Names(row) => admit(unread, row, frames, rate),
+        Ending::Names(row) => admit(framing, unread, row, frames, rate),
     }
 }
 
-// The walk over a payload that is not too long, from its end to its front.
-fn walk_back(payload: &[u8]) -> Walked
+// The walk over a payload that is not too long, from its end to its front. Wanted of a coder frame is the rate of those already read, or
+// else the rate agreed.
+fn walk_back(framing: Framing, payload: &[u8]) -> Walked
     requires { ⌜ length (now payload) ≤ 1400 ⌝ }
-    ensures { λ r. ⌜ r ≡ walkedOf (readOf (now (payload .entry))) ⌝ }
+    ensures { λ r. ⌜ r ≡ walkedOf (readOf framing (now (payload .entry))) ⌝ }
 {
     let mut unread = payload.len();
     let mut frames: usize = 0;
     let mut coders: u32 = 0;
     let mut octets: usize = 0;
     let mut rate: u32 = 0;
+    let mut wanted = agreed_rate(framing);
     while 0 < unread {
-        let step = next_frame(&payload[..unread], frames, rate);
+        let step = next_frame(framing, &payload[..unread], frames, wanted);
         match step {
             Step::Refused(number) => {
                 return Walked::Refused(Refusal {
@@ -405,6 +486,7 @@ fn walk_back(payload: &[u8]) -> Walked
                 if shape.entry.rate != 0 {
                     coders += 1;
                     rate = shape.entry.rate;
+                    wanted = shape.entry.rate;
                 }
             }
         }
@@ -418,8 +500,8 @@ fn walk_back(payload: &[u8]) -> Walked
 }
 
 // The walk: what a payload holds, or its refusal.
-pub fn walk(payload: &[u8]) -> Walked
-    ensures { λ r. ⌜ Walks (now (payload .entry)) r ⌝ }
+pub fn walk(framing: Framing, payload: &[u8]) -> Walked
+    ensures { λ r. ⌜ Walks framing (now (payload .entry)) r ⌝ }
 {
     if MOST_OCTETS < payload.len() {
         return Walked::Refused(Refusal {
@@ -427,5 +509,5 @@ pub fn walk(payload: &[u8]) -> Walked
             place: MOST_OCTETS,
         });
     }
-    walk_back(payload)
+    walk_back(framing, payload)
 }

@@ -10,6 +10,7 @@ use lib.Seq.{length-take-le, take-at, drop-at}
 use borrow.Author.Tests.{le-ltb, ltb-false}
 use Rattle.octets.specs.Octet.{Octets}
 use Rattle.wire.specs.Frame.{Frame, base, top, bodyOctets, wireOctets, sumOf, wireOf, octetsOf, rowsOf, bodiesOf, LegalBodies}
+use Rattle.wire.specs.declared.Framing.{Framing}
 use Rattle.wire.specs.declared.Row.{Row}
 use Rattle.wire.proofs.Octets.{length-wire}
 use Rattle.writer.specs.Write.{framesOf, badEnd}
@@ -33,43 +34,43 @@ frames-bodies (x ∷ xs) bs e =
     ∙ take-append-drop (bodyOctets x) bs
 
 -- the frames of a sequence's own rows and bodies are the sequence
-pub frames-back : (fs : List Frame) → LegalBodies fs → framesOf (rowsOf fs) (bodiesOf fs) ≡ fs
-frames-back [] h = refl
-frames-back (f ∷ fs) h =
+pub frames-back : (fr : Framing) (fs : List Frame) → LegalBodies fr fs → framesOf (rowsOf fs) (bodiesOf fs) ≡ fs
+frames-back fr [] h = refl
+frames-back fr (f ∷ fs) h =
     let n : ℕ = bodyOctets (f .row) in
     let t : take n (f .body ++ bodiesOf fs) ≡ f .body = take-at (f .body) (bodiesOf fs) n (h .0 .size) in
     let d : drop n (f .body ++ bodiesOf fs) ≡ bodiesOf fs = drop-at (f .body) (bodiesOf fs) n (h .0 .size) in
-    let e : framesOf (rowsOf fs) (drop n (f .body ++ bodiesOf fs)) ≡ fs = ap (framesOf (rowsOf fs)) d ∙ frames-back fs (h .1) in
+    let e : framesOf (rowsOf fs) (drop n (f .body ++ bodiesOf fs)) ≡ fs = ap (framesOf (rowsOf fs)) d ∙ frames-back fr fs (h .1) in
     λ i. record { row = f .row; body = t i } ∷ e i
 
 -- ---- body ends
 
-pub ends-legal : (fs : List Frame) → LegalBodies fs → (a : ℕ) → badEnd a fs ≡ Nowhere
-ends-legal [] h a = refl
-ends-legal (f ∷ fs) h a = simp (le-ltb (top (f .row)) (getD (f .body) (base (f .row) - 1) 0) (h .0 .end)) (ends-legal fs (h .1) (a + bodyOctets (f .row)))
+pub ends-legal : (fr : Framing) (fs : List Frame) → LegalBodies fr fs → (a : ℕ) → badEnd fr a fs ≡ Nowhere
+ends-legal fr [] h a = refl
+ends-legal fr (f ∷ fs) h a = simp (le-ltb (top fr (f .row)) (getD (f .body) (base (f .row) - 1) 0) (h .0 .end)) (ends-legal fr fs (h .1) (a + bodyOctets (f .row)))
 
 -- where no end is bad, the first is not, nor any behind it
-pub good-end : (a : ℕ) (f : Frame) (fs : List Frame) → badEnd a (f ∷ fs) ≡ Nowhere → (getD (f .body) (base (f .row) - 1) 0 ≤ top (f .row)) × (badEnd (a + bodyOctets (f .row)) fs ≡ Nowhere)
-good-end a f fs e = go (ltb (top (f .row)) (getD (f .body) (base (f .row) - 1) 0)) refl
+pub good-end : (fr : Framing) (a : ℕ) (f : Frame) (fs : List Frame) → badEnd fr a (f ∷ fs) ≡ Nowhere → (getD (f .body) (base (f .row) - 1) 0 ≤ top fr (f .row)) × (badEnd fr (a + bodyOctets (f .row)) fs ≡ Nowhere)
+good-end fr a f fs e = go (ltb (top fr (f .row)) (getD (f .body) (base (f .row) - 1) 0)) refl
   where
-    go : (b : Bool) → ltb (top (f .row)) (getD (f .body) (base (f .row) - 1) 0) ≡ b → (getD (f .body) (base (f .row) - 1) 0 ≤ top (f .row)) × (badEnd (a + bodyOctets (f .row)) fs ≡ Nowhere)
+    go : (b : Bool) → ltb (top fr (f .row)) (getD (f .body) (base (f .row) - 1) 0) ≡ b → (getD (f .body) (base (f .row) - 1) 0 ≤ top fr (f .row)) × (badEnd fr (a + bodyOctets (f .row)) fs ≡ Nowhere)
     go true t = absurd (let d : At (a + (base (f .row) - 1)) ≡ Nowhere = simp t at e in let z : _≡_ {A = ℕ} 0 1 = cc in omega arith)
-    go false t = (ltb-false (top (f .row)) (getD (f .body) (base (f .row) - 1) 0) t, simp t at e)
+    go false t = (ltb-false (top fr (f .row)) (getD (f .body) (base (f .row) - 1) 0) t, simp t at e)
 
-pub frames-legal : (xs : List Row) (bs : List ℕ) → Octets bs → sumOf bodyOctets xs ≤ length bs → (a : ℕ) → badEnd a (framesOf xs bs) ≡ Nowhere → LegalBodies (framesOf xs bs)
-frames-legal [] bs o l a e = tt
-frames-legal (x ∷ xs) bs o l a e =
+pub frames-legal : (fr : Framing) (xs : List Row) (bs : List ℕ) → Octets bs → sumOf bodyOctets xs ≤ length bs → (a : ℕ) → badEnd fr a (framesOf xs bs) ≡ Nowhere → LegalBodies fr (framesOf xs bs)
+frames-legal fr [] bs o l a e = tt
+frames-legal fr (x ∷ xs) bs o l a e =
     let n : ℕ = bodyOctets x in
-    let g = good-end a (record { row = x; body = take n bs }) (framesOf xs (drop n bs)) e in (
+    let g = good-end fr a (record { row = x; body = take n bs }) (framesOf xs (drop n bs)) e in (
       record { size = length-take-le n bs (omega arith); end = g .0; octets = octets-take n bs o },
-      frames-legal xs (drop n bs) (octets-drop n bs o) (omega (arith, length-drop n bs)) (a + n) (g .1),
+      frames-legal fr xs (drop n bs) (octets-drop n bs o) (omega (arith, length-drop n bs)) (a + n) (g .1),
     )
 
 -- ---- octets
 
-pub frames-octets : (xs : List Row) (bs : List ℕ) → sumOf bodyOctets xs ≤ length bs → length (octetsOf (framesOf xs bs)) ≡ sumOf wireOctets xs
-frames-octets [] bs h = refl
-frames-octets (x ∷ xs) bs h =
+pub frames-octets : (fr : Framing) (xs : List Row) (bs : List ℕ) → sumOf bodyOctets xs ≤ length bs → length (octetsOf fr (framesOf xs bs)) ≡ sumOf wireOctets xs
+frames-octets fr [] bs h = refl
+frames-octets fr (x ∷ xs) bs h =
     let n : ℕ = bodyOctets x in
-    length-append (wireOf x (take n bs)) (octetsOf (framesOf xs (drop n bs)))
-    ∙ omega (arith, length-wire x (take n bs) (length-take-le n bs (omega arith)), frames-octets xs (drop n bs) (omega (arith, length-drop n bs)))
+    length-append (wireOf fr x (take n bs)) (octetsOf fr (framesOf xs (drop n bs)))
+    ∙ omega (arith, length-wire fr x (take n bs) (length-take-le n bs (omega arith)), frames-octets fr xs (drop n bs) (omega (arith, length-drop n bs)))

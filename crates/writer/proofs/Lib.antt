@@ -9,3 +9,4 @@ pub mod Frames
 pub mod FrameLoops
 pub mod WriteStages
 pub mod Exactness
+pub mod SessionExamples

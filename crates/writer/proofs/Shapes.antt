@@ -16,9 +16,10 @@ use Rattle.wire.specs.Frame.{base, code, countIn, countOf, bodyOctets, wireOcte
 use Rattle.wire.specs.Answers.{shapeOf}
 use Rattle.wire.specs.declared.Counting.{Counting}
 use Rattle.wire.specs.declared.Counting.the-variants.{Uncounted, ShortOrLong, Long}
+use Rattle.wire.specs.declared.Framing.{Framing}
 use Rattle.wire.specs.declared.Row.{Row}
 use Rattle.wire.specs.declared.Shape.{Shape}
-use Rattle.wire.proofs.TableLaws.{bounds, count-most}
+use Rattle.wire.proofs.TableLaws.{bounds, octet, count-most}
 use Rattle.wire.proofs.Octets.{length-wire}
 use Rattle.writer.specs.Stages.{countBy, CountFits, FrameFits, FramePut}
 use Rattle.writer.specs.declared.Starts.{Starts}
@@ -33,8 +34,8 @@ pub record Sizes (x : Row) (s : Shape) : Type 0 where
   pub body : s .body ≡ bodyOctets x
   pub wire : s .wire ≡ wireOctets x
 
-pub sizes : (x : Row) {s : Shape} → s ≡ shapeOf x → Sizes x s
-sizes x e = rw e (record { octets = refl; some = bounds (x .kind) .least; body = refl; wire = refl })
+pub sizes : (fr : Framing) (x : Row) {s : Shape} → s ≡ shapeOf fr x → Sizes x s
+sizes fr x e = rw e (record { octets = refl; some = bounds (x .kind) .least; body = refl; wire = refl })
 
 -- ---- the count, from how many octets it takes
 
@@ -66,7 +67,7 @@ module _ (d : List ℕ) (a t c : ℕ) (fits : CountFits (length d) a t c) where
 
 -- ---- the stores of a frame
 
-module _ (bs : List ℕ) (from : ℕ) (x : Row) (d : List ℕ) (at : ℕ) (fits : FrameFits bs from x (length d) at) where
+module _ (fr : Framing) (bs : List ℕ) (from : ℕ) (x : Row) (d : List ℕ) (at : ℕ) (fits : FrameFits fr bs from x (length d) at) where
   long : bodyOctets x ≤ length (drop from bs)
   long = simp length-drop (omega (arith, fits .lent))
 
@@ -78,13 +79,13 @@ module _ (bs : List ℕ) (from : ℕ) (x : Row) (d : List ℕ) (at : ℕ) (fits 
 
   -- the base's last octet, with the rate code
   last : ℕ
-  last = getD bs (from + (base x - 1)) 0 + code x
+  last = getD bs (from + (base x - 1)) 0 + code fr x
 
   module _ {e : List ℕ} (copied : e ≡ paste d at (drop from bs) (bodyOctets x)) where
     pub length-copied : length e ≡ length d
     length-copied = ap length copied ∙ length-paste d at (drop from bs) (bodyOctets x) room long
 
-    module _ {g : List ℕ} (stored : g ≡ set e (at + (base x - 1)) (getD bs (from + (base x - 1)) 0 + code x)) where
+    module _ {g : List ℕ} (stored : g ≡ set e (at + (base x - 1)) (getD bs (from + (base x - 1)) 0 + code fr x)) where
       pub length-stored : length g ≡ length d
       length-stored = ap length stored ∙ simp length-set length-copied
 
@@ -97,7 +98,7 @@ module _ (bs : List ℕ) (from : ℕ) (x : Row) (d : List ℕ) (at : ℕ) (fits 
       }
 
       pub frame-stored : {h : List ℕ} → h ≡ paste g (at + bodyOctets x) (countBy (length (countOf x)) (x .tc)) (length (countOf x))
-          → h ≡ paste d at (wireOf x (take (bodyOctets x) (drop from bs))) (wireOctets x)
+          → h ≡ paste d at (wireOf fr x (take (bodyOctets x) (drop from bs))) (wireOctets x)
       unfolding last
       frame-stored q =
           let n : ℕ = bodyOctets x in
@@ -112,34 +113,34 @@ module _ (bs : List ℕ) (from : ℕ) (x : Row) (d : List ℕ) (at : ℕ) (fits 
           ∙ ap (λ (l : List ℕ). paste l (at + n) c (length c)) body
           ∙ paste-paste d (set (drop from bs) j last) at n room (simp length-set long) c (length c) refl
           ∙ ap (λ (l : List ℕ). paste d at (l ++ c) (n + length c)) (take-set-lt n (drop from bs) j last end)
-          ∙ ap (λ (v : ℕ). paste d at (set b j (v + code x) ++ c) (n + length c)) (sym same)
+          ∙ ap (λ (v : ℕ). paste d at (set b j (v + code fr x) ++ c) (n + length c)) (sym same)
 
   -- what is pasted is all of the frame
-  pub length-frame : length (wireOf x (take (bodyOctets x) (drop from bs))) ≡ wireOctets x
-  length-frame = length-wire x (take (bodyOctets x) (drop from bs)) (length-take-le (bodyOctets x) (drop from bs) long)
+  pub length-frame : length (wireOf fr x (take (bodyOctets x) (drop from bs))) ≡ wireOctets x
+  length-frame = length-wire fr x (take (bodyOctets x) (drop from bs)) (length-take-le (bodyOctets x) (drop from bs) long)
 
-  pub length-put : {r : Starts} {h : List ℕ} → FramePut bs from x d at r h → length h ≡ length d
-  length-put p = ap length (p .octets) ∙ length-paste d at (wireOf x (take (bodyOctets x) (drop from bs))) (wireOctets x) (fits .inside) (omega (arith, length-frame))
+  pub length-put : {r : Starts} {h : List ℕ} → FramePut fr bs from x d at r h → length h ≡ length d
+  length-put p = ap length (p .octets) ∙ length-paste d at (wireOf fr x (take (bodyOctets x) (drop from bs))) (wireOctets x) (fits .inside) (omega (arith, length-frame))
 
   -- the same by the numbers of the shape
-  module _ {s : Shape} (is : s ≡ shapeOf x) where
+  module _ {s : Shape} (is : s ≡ shapeOf fr x) where
     pub body-copied : {y : List ℕ} → y ≡ over (take (from + s .body - from) (drop from bs)) (take (at + s .body - at) (drop at d))
         → take at d ++ (y ++ drop (at + s .body - at) (drop at d)) ≡ paste d at (drop from bs) (bodyOctets x)
     body-copied =
-        let z = sizes x is in
+        let z = sizes fr x is in
         part-copied bs d from (from + s .body) at (at + s .body) (bodyOctets x) (omega arith) (omega arith) (omega (arith, fits .lent)) (omega (arith, room))
 
     pub last-fits : getD bs (from + (s .entry .octets - 1)) 0 + s .entry .code < 256
-    last-fits = let b = bounds (x .kind) in rw is (omega (arith, fits .end))
+    last-fits = rw is (omega (arith, fits .end, octet fr (x .kind)))
 
     module _ {e : List ℕ} (copied : e ≡ paste d at (drop from bs) (bodyOctets x)) where
       pub end-inside : at + (s .entry .octets - 1) < length e
-      end-inside = let z = sizes x is in omega (arith, room, end, length-copied copied)
+      end-inside = let z = sizes fr x is in omega (arith, room, end, length-copied copied)
 
       pub count-asked : CountFits (length (set e (at + (s .entry .octets - 1)) (getD bs (from + (s .entry .octets - 1)) 0 + s .entry .code))) (at + s .body) (s .tc) (s .count)
       count-asked = rw is (count-fits copied refl)
 
       pub frame-put : {h : List ℕ}
           → h ≡ paste (set e (at + (s .entry .octets - 1)) (getD bs (from + (s .entry .octets - 1)) 0 + s .entry .code)) (at + s .body) (countBy (s .count) (s .tc)) (s .count)
-          → FramePut bs from x d at (record { body = from + s .body; frame = at + s .wire }) h
+          → FramePut fr bs from x d at (record { body = from + s .body; frame = at + s .wire }) h
       frame-put counted = record { starts = rw is refl; octets = frame-stored copied refl (rw is at counted) }

@@ -10,6 +10,7 @@ use lib.Dec.{eqb}
 use lib.ListN.{length}
 use borrow.Author.Tests.{eqb-true}
 use Rattle.wire.specs.Frame.{table, kinds, lookUp, kindOf, rate, wireOctets, sumOf, numbersOf, Stands, OfRate, LegalRows}
+use Rattle.wire.specs.declared.Framing.{Framing}
 use Rattle.wire.specs.declared.Kind.{Kind}
 use Rattle.wire.specs.declared.Row.{Row}
 use Rattle.wire.proofs.TableLaws.{bounds, coder-octets}
@@ -49,5 +50,5 @@ rows-octets r (x ∷ xs) o = go (rows-octets r xs (o .2)) (either r (rate x) xs 
     go ih (inr w) = omega (arith, coder-octets (x .kind) (w .0))
 
 -- "at most 200 frames"
-pub rows-most : (xs : List Row) → LegalRows xs → length xs ≤ 200
-rows-most xs l = omega (arith, rows-octets (l .common) xs (l .rated), l .total)
+pub rows-most : (fr : Framing) (xs : List Row) → LegalRows fr xs → length xs ≤ 200
+rows-most fr xs l = omega (arith, rows-octets (l .common) xs (l .rated), l .total)

@@ -3,7 +3,7 @@ use mathlib.Core.List.{List}
 use Prim.Native.Nat.{ℕ}
 use lib.ListN.{length}
 use Rattle.refusal.specs.Report.{Report, accepted, refusedWith, refusal}
-use Rattle.wire.specs.Frame.{Frame, bodyOctets, wireOctets, sumOf, octetsOf}
+use Rattle.wire.specs.Frame.{bodyOctets, wireOctets, sumOf}
 use Rattle.wire.specs.declared.Row.{Row}
 use Rattle.writer.specs.Rows.{Outcome, passed, refused}
 use Rattle.writer.specs.declared.Totals.{Totals}
@@ -40,13 +40,13 @@ rowCheckReport (RowsRefused x) = refusedWith noTotals x
 -- ---- the writer
 
 -- the writer's answer
-abbrev pub writingOf : Outcome (List Frame) → Writing
-writingOf (passed fs) = Written (length (octetsOf fs))
+abbrev pub writingOf : Outcome (List ℕ) → Writing
+writingOf (passed os) = Written (length os)
 writingOf (refused n place) = Refused (refusal n place)
 
 -- the numbers of what a writing comes to: the octets written, 0 under a refusal
-abbrev pub writeReport : Outcome (List Frame) → Report ℕ
-writeReport (passed fs) = accepted (length (octetsOf fs))
+abbrev pub writeReport : Outcome (List ℕ) → Report ℕ
+writeReport (passed os) = accepted (length os)
 writeReport (refused n place) = refusedWith 0 (refusal n place)
 
 -- the numbers of each case of its answer

@@ -8,15 +8,18 @@ ghost use lib.ListN.{length, getD};
 ghost use lib.Seq.{paste};
 ghost use Rattle.refusal.specs.Numbers.{tooLong};
 ghost use Rattle.refusal.specs.Report.{refusal};
-ghost use Rattle.wire.specs.Frame.{kindOf, wireOctets, sumOf};
+ghost use Rattle.wire.specs.Frame.{kindOf, wireOctets, sumOf, octetsOf};
 ghost use Rattle.writer.specs.Rows.{passed, rowOf, rowByRow, andThen, total, checkOf};
-ghost use Rattle.writer.specs.Write.{framesOf, badEnd, writeOf, outOf};
+ghost use Rattle.writer.specs.Write.{framesOf, badEnd, writeOf, octetsIn, outOf};
 ghost use Rattle.writer.specs.Answers.{rowCheckOf};
 ghost use Rattle.writer.specs.Promise.{Checks, Writes};
-ghost use Rattle.writer.specs.Stages.{checkedOf, OneRate, namedRow, countBy, CountFits, FrameFits, FramePut, Agreed, Ready, Ends};
+ghost use Rattle.writer.specs.Stages.{checkedOf, OneRate, namedRow, countBy, CountFits, FrameFits, FramePut, InOrder, Ready, Ends};
 use refusal::Refusal;
+use wire::Framing;
 use wire::Known;
+use wire::KnownFraming;
 use wire::Row;
+use wire::Session;
 
 const MOST_OCTETS: usize = 1400;
 
@@ -76,9 +79,10 @@ fn row_at(rows: &[u16], at: usize) -> Checked
     }
 }
 
-// This row, behind rows of the rate `rate` (0 where there are none) and before `later` numbers; or 13, 6, 8.
+// This row, behind rows of the rate `rate` (where there are none, the rate agreed, or 0) and before `later` numbers; or 13, 6, 8.
 fn admit(row: Row, later: usize, rate: u32) -> Checked
-    ensures { λ r. ⌜ ((earlier : List Row) → OneRate rate earlier → r ≡ checkedOf (rowOf earlier later (some (row .kind)) (row .tc))) ⌝ }
+    ensures { λ r. ⌜ ((framing : Framing) (earlier : List Row) → OneRate framing rate earlier
+        → r ≡ checkedOf (rowOf framing earlier later (some (row .kind)) (row .tc))) ⌝ }
 {
     let kind = row.kind;
     let tc = row.tc as usize;
@@ -107,8 +111,8 @@ fn admit(row: Row, later: usize, rate: u32) -> Checked
 // The row at an index, behind rows of the rate `rate`; or 12, 13, 6, 8.
 fn next_row(rows: &[u16], at: usize, rate: u32) -> Checked
     requires { ⌜ at + 2 ≤ length (now rows) ⌝ }
-    ensures { λ r. ⌜ ((earlier : List Row) → OneRate rate earlier
-        → r ≡ checkedOf (rowOf earlier (length (now (rows .entry)) - at - 2) (kindOf (getD (now (rows .entry)) at 0)) (getD (now (rows .entry)) (at + 1) 0))) ⌝ }
+    ensures { λ r. ⌜ ((framing : Framing) (earlier : List Row) → OneRate framing rate earlier
+        → r ≡ checkedOf (rowOf framing earlier (length (now (rows .entry)) - at - 2) (kindOf (getD (now (rows .entry)) at 0)) (getD (now (rows .entry)) (at + 1) 0))) ⌝ }
 {
     let named = row_at(rows, at);
     match named {
@@ -128,14 +132,14 @@ fn too_long() -> RowCheck
 }
 
 // The checks "row by row" of n rows; then 1 for the total.
-fn row_by_row(rows: &[u16], n: usize) -> RowCheck
+fn row_by_row(framing: Framing, rows: &[u16], n: usize) -> RowCheck
     requires { ⌜ (length (now rows) ≡ 2 * n) × (n ≤ 200) ⌝ }
-    ensures { λ r. ⌜ r ≡ rowCheckOf (andThen (rowByRow [] (now (rows .entry))) total) ⌝ }
+    ensures { λ r. ⌜ r ≡ rowCheckOf (andThen (rowByRow framing [] (now (rows .entry))) total) ⌝ }
 {
     let mut i = 0;
     let mut bodies: usize = 0;
     let mut wire: usize = 0;
-    let mut rate: u32 = 0;
+    let mut rate = wire::agreed_rate(framing);
     while i < n {
         let checked = next_row(rows, 2 * i, rate);
         match checked {
@@ -143,7 +147,7 @@ fn row_by_row(rows: &[u16], n: usize) -> RowCheck
                 return RowCheck::Refused(Refusal { number, place: i });
             }
             Checked::Passes(row) => {
-                let shape = wire::shape_of(row);
+                let shape = wire::shape_of(framing, row);
                 bodies += shape.body;
                 wire += shape.wire;
                 rate = shape.entry.rate;
@@ -161,9 +165,9 @@ fn row_by_row(rows: &[u16], n: usize) -> RowCheck
     })
 }
 
-// The checks that concern rows alone.
-pub fn check_rows(rows: &[u16]) -> RowCheck
-    ensures { λ r. ⌜ Checks (now (rows .entry)) r ⌝ }
+// The checks that concern rows alone, in a session of this framing.
+fn check_rows_framed(framing: Framing, rows: &[u16]) -> RowCheck
+    ensures { λ r. ⌜ r ≡ rowCheckOf (checkOf framing (now (rows .entry))) ⌝ }
 {
     let len = rows.len();
     if len % 2 == 1 {
@@ -176,15 +180,22 @@ pub fn check_rows(rows: &[u16]) -> RowCheck
     if MOST_ROWS < n {
         return too_long();
     }
-    row_by_row(rows, n)
+    row_by_row(framing, rows, n)
+}
+
+// The checks that concern rows alone, where framing is not agreed.
+pub fn check_rows(rows: &[u16]) -> RowCheck
+    ensures { λ r. ⌜ Checks (now (rows .entry)) r ⌝ }
+{
+    check_rows_framed(Framing::Unframed, rows)
 }
 
 // ---- body ends
 
 // The first bad end among the bodies of rows that are in order, so that each is of a known kind.
-fn bad_end(rows: &[u16], bodies: &[u8]) -> BadEnd
-    requires { ⌜ ((xs : List Row) × Agreed (now rows) (length (now bodies)) xs) ⌝ }
-    ensures { λ r. ⌜ ((xs : List Row) → checkOf (now (rows .entry)) ≡ passed xs → r ≡ badEnd 0 (framesOf xs (now (bodies .entry)))) ⌝ }
+fn bad_end(framing: Framing, rows: &[u16], bodies: &[u8]) -> BadEnd
+    requires { ⌜ ((xs : List Row) × InOrder framing (now rows) (length (now bodies)) xs) ⌝ }
+    ensures { λ r. ⌜ ((xs : List Row) → checkOf framing (now (rows .entry)) ≡ passed xs → r ≡ badEnd framing 0 (framesOf xs (now (bodies .entry)))) ⌝ }
 {
     let mut at: usize = 0;
     let mut from: usize = 0;
@@ -195,7 +206,7 @@ fn bad_end(rows: &[u16], bodies: &[u8]) -> BadEnd
                 return BadEnd::Nowhere;
             }
             Checked::Passes(row) => {
-                let shape = wire::shape_of(row);
+                let shape = wire::shape_of(framing, row);
                 let end = from + (shape.entry.octets - 1);
                 if shape.entry.top < bodies[end] {
                     return BadEnd::At(end);
@@ -227,11 +238,18 @@ fn put_count(out: &mut [u8], at: usize, tc: usize, count: usize)
 }
 
 // Writes the frame of this row whose body starts at `from`, and answers where the next ones start.
-fn put_frame(bodies: &[u8], from: usize, row: Row, out: &mut [u8], at: usize) -> Starts
-    requires { ⌜ FrameFits (now bodies) from row (length (now out)) at ⌝ }
-    ensures { λ r. ⌜ FramePut (now (bodies .entry)) from row (now (out .entry)) at r (now (out .exit)) ⌝ }
+fn put_frame(
+    framing: Framing,
+    bodies: &[u8],
+    from: usize,
+    row: Row,
+    out: &mut [u8],
+    at: usize,
+) -> Starts
+    requires { ⌜ FrameFits framing (now bodies) from row (length (now out)) at ⌝ }
+    ensures { λ r. ⌜ FramePut framing (now (bodies .entry)) from row (now (out .entry)) at r (now (out .exit)) ⌝ }
 {
-    let shape = wire::shape_of(row);
+    let shape = wire::shape_of(framing, row);
     let behind = at + shape.body;
     let frame = at + shape.wire;
     let body = from + shape.body;
@@ -244,10 +262,10 @@ fn put_frame(bodies: &[u8], from: usize, row: Row, out: &mut [u8], at: usize) ->
 }
 
 // Writes the frames of rows that are in order, so that each is of a known kind.
-fn put(rows: &[u16], bodies: &[u8], out: &mut [u8])
-    requires { ⌜ ((xs : List Row) × Ready (now rows) (now bodies) xs × (sumOf wireOctets xs ≤ length (now out))) ⌝ }
-    ensures { λ _. ⌜ ((xs : List Row) → checkOf (now (rows .entry)) ≡ passed xs
-        → now (out .exit) ≡ outOf (passed (framesOf xs (now (bodies .entry)))) (now (out .entry))) ⌝ }
+fn put(framing: Framing, rows: &[u16], bodies: &[u8], out: &mut [u8])
+    requires { ⌜ ((xs : List Row) × Ready framing (now rows) (now bodies) xs × (sumOf wireOctets xs ≤ length (now out))) ⌝ }
+    ensures { λ _. ⌜ ((xs : List Row) → checkOf framing (now (rows .entry)) ≡ passed xs
+        → now (out .exit) ≡ outOf (passed (octetsOf framing (framesOf xs (now (bodies .entry))))) (now (out .entry))) ⌝ }
 {
     let mut at: usize = 0;
     let mut from: usize = 0;
@@ -259,7 +277,7 @@ fn put(rows: &[u16], bodies: &[u8], out: &mut [u8])
                 return;
             }
             Checked::Passes(row) => {
-                let next = put_frame(bodies, from, row, out, to);
+                let next = put_frame(framing, bodies, from, row, out, to);
                 from = next.body;
                 to = next.frame;
                 at += 2;
@@ -277,40 +295,57 @@ fn refused(number: u8, place: usize) -> Writing
 }
 
 // 10, or the octets: `wire` of them.
-fn put_all(rows: &[u16], bodies: &[u8], wire: usize, out: &mut [u8]) -> Writing
-    requires { ⌜ ((xs : List Row) × Ready (now rows) (now bodies) xs × (wire ≡ sumOf wireOctets xs)) ⌝ }
-    ensures { λ r. ⌜ Ends (writeOf (now (rows .entry)) (now (bodies .entry)) (length (now (out .entry)))) (now (out .entry)) r (now (out .exit)) ⌝ }
+fn put_all(framing: Framing, rows: &[u16], bodies: &[u8], wire: usize, out: &mut [u8]) -> Writing
+    requires { ⌜ ((xs : List Row) × Ready framing (now rows) (now bodies) xs × (wire ≡ sumOf wireOctets xs)) ⌝ }
+    ensures { λ r. ⌜ Ends (octetsIn framing (writeOf framing (now (rows .entry)) (now (bodies .entry)) (length (now (out .entry))))) (now (out .entry)) r (now (out .exit)) ⌝ }
 {
     if out.len() < wire {
         return refused(refusal::OCTETS_TOO_SHORT, wire);
     }
-    put(rows, bodies, out);
+    put(framing, rows, bodies, out);
     Writing::Written(wire)
 }
 
 // Behind the checks of the rows: 14, 3, 10, or the octets.
-fn write_bodies(rows: &[u16], bodies: &[u8], totals: Totals, out: &mut [u8]) -> Writing
-    requires { ⌜ rowCheckOf (checkOf (now rows)) ≡ RowCheck.Sound totals ⌝ }
-    ensures { λ r. ⌜ Ends (writeOf (now (rows .entry)) (now (bodies .entry)) (length (now (out .entry)))) (now (out .entry)) r (now (out .exit)) ⌝ }
+fn write_bodies(
+    framing: Framing,
+    rows: &[u16],
+    bodies: &[u8],
+    totals: Totals,
+    out: &mut [u8],
+) -> Writing
+    requires { ⌜ rowCheckOf (checkOf framing (now rows)) ≡ RowCheck.Sound totals ⌝ }
+    ensures { λ r. ⌜ Ends (octetsIn framing (writeOf framing (now (rows .entry)) (now (bodies .entry)) (length (now (out .entry))))) (now (out .entry)) r (now (out .exit)) ⌝ }
 {
     let sum = totals.bodies;
     if bodies.len() != sum {
         return refused(refusal::WRONG_LENGTH, sum);
     }
-    let end = bad_end(rows, bodies);
+    let end = bad_end(framing, rows, bodies);
     match end {
         BadEnd::At(place) => refused(refusal::RESERVED_BITS, place),
-        BadEnd::Nowhere => put_all(rows, bodies, totals.wire, out),
+        BadEnd::Nowhere => put_all(framing, rows, bodies, totals.wire, out),
     }
 }
 
-// Writes the payload that rows and bodies describe into the first places of `out`, or refuses and changes nothing.
-pub fn write(rows: &[u16], bodies: &[u8], out: &mut [u8]) -> Writing
-    ensures { λ r. ⌜ Writes (now (rows .entry)) (now (bodies .entry)) (now (out .entry)) r (now (out .exit)) ⌝ }
+// The writer in a session of this framing.
+fn write_framed(framing: Framing, rows: &[u16], bodies: &[u8], out: &mut [u8]) -> Writing
+    ensures { λ r. ⌜ Ends (octetsIn framing (writeOf framing (now (rows .entry)) (now (bodies .entry)) (length (now (out .entry))))) (now (out .entry)) r (now (out .exit)) ⌝ }
 {
-    let checked = check_rows(rows);
+    let checked = check_rows_framed(framing, rows);
     match checked {
         RowCheck::Refused(refusal) => Writing::Refused(refusal),
-        RowCheck::Sound(totals) => write_bodies(rows, bodies, totals, out),
+        RowCheck::Sound(totals) => write_bodies(framing, rows, bodies, totals, out),
+    }
+}
+
+// Writes the payload that rows and bodies describe in a session into the first places of `out`, or refuses and changes nothing.
+pub fn write(session: Session, rows: &[u16], bodies: &[u8], out: &mut [u8]) -> Writing
+    ensures { λ r. ⌜ Writes session (now (rows .entry)) (now (bodies .entry)) (now (out .entry)) r (now (out .exit)) ⌝ }
+{
+    let known = wire::framing_of(session);
+    match known {
+        KnownFraming::Unknown => refused(refusal::UNKNOWN, 0),
+        KnownFraming::Is(framing) => write_framed(framing, rows, bodies, out),
     }
 }

@@ -45,6 +45,9 @@ pub struct Part {
 /// First, second and third rate, and tcmax.
 pub type Settings = [u16; 4];
 
+/// Whether framing is agreed (0: not), and the rate.
+pub type Session = [u32; 2];
+
 #[repr(C)]
 pub struct SettingsReading {
     pub number: u32,
@@ -87,6 +90,43 @@ unsafe extern "C" {
     fn moult_ptime(rate: u32, frames: usize) -> Millis;
     fn moult_augmentation(payload: *const u8, n: usize, row: usize) -> Part;
     fn moult_frame_or(
+        payload: *const u8,
+        n: usize,
+        row: usize,
+        stand_in: *const u8,
+        stand_in_n: usize,
+    ) -> Part;
+    fn moult_read_session(
+        agreed: u32,
+        rate: u32,
+        payload: *const u8,
+        n: usize,
+        rows: *mut u16,
+        rows_n: usize,
+        bodies: *mut u8,
+        bodies_n: usize,
+    ) -> Reading;
+    fn moult_write_session(
+        agreed: u32,
+        rate: u32,
+        rows: *const u16,
+        rows_n: usize,
+        bodies: *const u8,
+        bodies_n: usize,
+        out: *mut u8,
+        out_n: usize,
+    ) -> Writing;
+    fn moult_packet_ticks_session(agreed: u32, rate: u32, payload: *const u8, n: usize) -> Ticks;
+    fn moult_augmentation_session(
+        agreed: u32,
+        rate: u32,
+        payload: *const u8,
+        n: usize,
+        row: usize,
+    ) -> Part;
+    fn moult_frame_or_session(
+        agreed: u32,
+        rate: u32,
         payload: *const u8,
         n: usize,
         row: usize,
@@ -180,6 +220,73 @@ pub fn augmentation(payload: &[u8], row: usize) -> Part {
 pub fn frame_or(payload: &[u8], row: usize, stand_in: &[u8]) -> Part {
     unsafe {
         moult_frame_or(
+            payload.as_ptr(),
+            payload.len(),
+            row,
+            stand_in.as_ptr(),
+            stand_in.len(),
+        )
+    }
+}
+
+pub fn read_session(
+    [agreed, rate]: Session,
+    payload: &[u8],
+    rows: &mut [u16],
+    bodies: &mut [u8],
+) -> Reading {
+    unsafe {
+        moult_read_session(
+            agreed,
+            rate,
+            payload.as_ptr(),
+            payload.len(),
+            rows.as_mut_ptr(),
+            rows.len(),
+            bodies.as_mut_ptr(),
+            bodies.len(),
+        )
+    }
+}
+
+pub fn write_session(
+    [agreed, rate]: Session,
+    rows: &[u16],
+    bodies: &[u8],
+    out: &mut [u8],
+) -> Writing {
+    unsafe {
+        moult_write_session(
+            agreed,
+            rate,
+            rows.as_ptr(),
+            rows.len(),
+            bodies.as_ptr(),
+            bodies.len(),
+            out.as_mut_ptr(),
+            out.len(),
+        )
+    }
+}
+
+pub fn packet_ticks_session([agreed, rate]: Session, payload: &[u8]) -> Ticks {
+    unsafe { moult_packet_ticks_session(agreed, rate, payload.as_ptr(), payload.len()) }
+}
+
+pub fn augmentation_session([agreed, rate]: Session, payload: &[u8], row: usize) -> Part {
+    unsafe { moult_augmentation_session(agreed, rate, payload.as_ptr(), payload.len(), row) }
+}
+
+pub fn frame_or_session(
+    [agreed, rate]: Session,
+    payload: &[u8],
+    row: usize,
+    stand_in: &[u8],
+) -> Part {
+    unsafe {
+        moult_frame_or_session(
+            agreed,
+            rate,
             payload.as_ptr(),
             payload.len(),
             row,

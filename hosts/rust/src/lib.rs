@@ -23,6 +23,9 @@
 //! refuse nothing. A refusal changes no lent memory; an acceptance changes the first places that it
 //! reports and nothing beyond. Nothing is allocated or kept, and any thread may call at any time.
 //!
+//! Where the two ends of a call have agreed on a framing bit, the functions whose names end in `_in`
+//! take the [`Session`].
+//!
 //! A newer library may give reasons and kinds that this crate has no name for: they come as
 //! [`Reason::Other`] and [`Kind::Other`], with their numbers, and are handled like any other.
 //!
@@ -41,6 +44,7 @@ pub mod journal;
 mod numbered;
 mod payload;
 mod refusal;
+mod session;
 mod settings;
 mod time;
 mod version;
@@ -48,12 +52,13 @@ mod views;
 
 pub use fields::{pack, unpack};
 pub use frames::{Frame, Frames, FramesError, Kind, body_octets, frames};
-pub use payload::{Reading, count, read, write};
+pub use payload::{Reading, count, read, read_in, write, write_in};
 pub use refusal::{Call, Reason, Refusal};
+pub use session::Session;
 pub use settings::Settings;
-pub use time::{Millis, Ticks, packet_ticks, ptime};
+pub use time::{Millis, Ticks, packet_ticks, packet_ticks_in, ptime};
 pub use version::{Version, version};
-pub use views::{Shown, augmentation, frame_or};
+pub use views::{Shown, augmentation, augmentation_in, frame_or, frame_or_in};
 
 /// Most octets of a payload.
 pub const MAX_OCTETS: usize = 1400;

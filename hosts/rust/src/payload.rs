@@ -4,6 +4,7 @@
 use crate::ffi;
 use crate::frames::{Frames, frames};
 use crate::refusal::{Call, Reason, Refusal, answer};
+use crate::session::Session;
 use crate::time::Ticks;
 
 /// What an accepted reading has put into the lent buffers, and what it says of the payload.
@@ -71,14 +72,46 @@ pub fn count(payload: &[u8]) -> Result<usize, Reason> {
 /// `LongCountZero`, `ReservedBits`, `FrameCut`, `ComfortNoiseNotLast`, `AugmentationNot2400`,
 /// `RatesMixed`; `NumbersTooShort`, `OctetsTooShort`.
 pub fn read(payload: &[u8], rows: &mut [u16], bodies: &mut [u8]) -> Result<Reading, Refusal> {
-    let read = ffi::read(payload, rows, bodies);
+    read_answer(Call::Read, ffi::read(payload, rows, bodies))
+}
+
+/// [`read`] in a session.
+///
+/// ```
+/// use moult::{Call, Reason, Session};
+/// let framed = [0, 0, 0, 0, 0, 0, 0x40, 0, 0, 0, 0, 0, 0, 0x00]; // bit 55 set, then clear
+/// let (mut rows, mut bodies) = ([0; 4], [0; 14]);
+/// let reading = moult::read_in(Session::Agreed(600), &framed, &mut rows, &mut bodies).unwrap();
+/// assert_eq!((reading.rate, rows), (Some(600), [3, 0, 3, 0]));
+/// assert_eq!(bodies, framed);
+///
+/// let wrong = moult::read_in(Session::Agreed(1200), &framed, &mut rows, &mut bodies);
+/// let refusal = wrong.unwrap_err();
+/// assert_eq!((refusal.reason, refusal.place), (Reason::Unknown, 0));
+/// assert_eq!(refusal.call, Call::Session);
+/// ```
+///
+/// # Errors
+///
+/// `Unknown` for an agreed rate that is not 2400 or 600, before all else; then as [`read`].
+pub fn read_in(
+    session: Session,
+    payload: &[u8],
+    rows: &mut [u16],
+    bodies: &mut [u8],
+) -> Result<Reading, Refusal> {
+    let read = ffi::read_session(session.numbers(), payload, rows, bodies);
+    read_answer(session.or(Call::Read), read)
+}
+
+fn read_answer(call: Call, read: ffi::Reading) -> Result<Reading, Refusal> {
     let reading = Reading {
         rows: read.rows,
         octets: read.octets,
         rate: Some(read.rate).filter(|rate| *rate != 0),
         ticks: Ticks(read.ticks),
     };
-    answer(Call::Read, read.number, read.place, reading)
+    answer(call, read.number, read.place, reading)
 }
 
 /// Writes the payload of `rows` (kind and TC of each frame) and `bodies` (one after another) into
@@ -101,4 +134,31 @@ pub fn read(payload: &[u8], rows: &mut [u16], bodies: &mut [u8]) -> Result<Readi
 pub fn write(rows: &[u16], bodies: &[u8], out: &mut [u8]) -> Result<usize, Refusal> {
     let writing = ffi::write(rows, bodies, out);
     answer(Call::Write, writing.number, writing.place, writing.octets)
+}
+
+/// [`write()`] in a session.
+///
+/// ```
+/// use moult::{Reason, Session};
+/// let body = [0, 0, 0, 0, 0, 0, 0x40];
+/// let mut out = [0; 7];
+/// assert_eq!(moult::write_in(Session::Agreed(600), &[3, 0], &body, &mut out), Ok(7));
+/// assert_eq!(out, body);
+///
+/// let refusal = moult::write_in(Session::Agreed(600), &[1, 0], &body, &mut out).unwrap_err();
+/// assert_eq!((refusal.reason, refusal.place), (Reason::RatesMixed, 0));
+/// ```
+///
+/// # Errors
+///
+/// `Unknown` for an agreed rate that is not 2400 or 600, before all else; then as [`write()`].
+pub fn write_in(
+    session: Session,
+    rows: &[u16],
+    bodies: &[u8],
+    out: &mut [u8],
+) -> Result<usize, Refusal> {
+    let writing = ffi::write_session(session.numbers(), rows, bodies, out);
+    let call = session.or(Call::Write);
+    answer(call, writing.number, writing.place, writing.octets)
 }

@@ -36,7 +36,8 @@ numbered! {
         ComfortNoiseNotLast = 6, "comfort noise not last";
         /// Augmentation is not behind a 2400 bps frame. Place: unread.
         AugmentationNot2400 = 7, "augmentation not behind a 2400 bps frame";
-        /// Coder frames are of several rates. Place: unread; writer: row, from 0.
+        /// Coder frames are of several rates, or not of the agreed one. Place: unread; writer: row,
+        /// from 0.
         RatesMixed = 8, "rates mixed";
         /// The number list is too short. Place: rows needed, or fields needed.
         NumbersTooShort = 9, "number list too short";
@@ -44,7 +45,8 @@ numbered! {
         OctetsTooShort = 10, "octet buffer too short";
         /// The row list has an odd length. Place: that length.
         OddRows = 11, "odd row list";
-        /// The kind, rate or number of frames is unknown. Place: writer: row, from 0; else 0.
+        /// The kind, rate or number of frames is unknown. Place: writer: row, from 0; else, and for
+        /// the agreed rate of a session, 0.
         Unknown = 12, "unknown kind, rate or number of frames";
         /// The TC is wrong for the kind. Place: row, from 0.
         WrongTc = 13, "TC wrong for the kind";
@@ -80,11 +82,11 @@ impl Error for Reason {}
 #[derive(Clone, Copy, Debug, PartialEq, Eq, Hash)]
 #[non_exhaustive]
 pub enum Call {
-    /// [`read`](crate::read).
+    /// [`read`](crate::read) or [`read_in`](crate::read_in).
     Read,
-    /// [`write`](crate::write).
+    /// [`write`](crate::write) or [`write_in`](crate::write_in).
     Write,
-    /// [`packet_ticks`](crate::packet_ticks).
+    /// [`packet_ticks`](crate::packet_ticks) or [`packet_ticks_in`](crate::packet_ticks_in).
     PacketTicks,
     /// [`ptime`](crate::ptime).
     Ptime,
@@ -100,6 +102,8 @@ pub enum Call {
     JournalRead,
     /// [`journal::write_entry`](crate::journal::write_entry).
     JournalWrite,
+    /// Any call that takes a [`Session`](crate::Session), whose agreed rate was refused.
+    Session,
 }
 
 /// A refusal: why, and where or how much.

@@ -3,6 +3,7 @@
 
 use crate::ffi;
 use crate::refusal::{Call, Refusal, answer};
+use crate::session::Session;
 use core::fmt;
 
 /// Clock ticks of 1/8000 second.
@@ -37,13 +38,27 @@ impl fmt::Display for Millis {
 ///
 /// As [`read`](crate::read), but for the room.
 pub fn packet_ticks(payload: &[u8]) -> Result<Ticks, Refusal> {
-    let time = ffi::packet_ticks(payload);
-    answer(
-        Call::PacketTicks,
-        time.number,
-        time.place,
-        Ticks(time.ticks),
-    )
+    ticks_answer(Call::PacketTicks, ffi::packet_ticks(payload))
+}
+
+/// [`packet_ticks`] in a session.
+///
+/// ```
+/// use moult::{Session, Ticks};
+/// assert_eq!(moult::packet_ticks_in(Session::Agreed(600), &[0; 7]), Ok(Ticks(720)));
+/// assert!(moult::packet_ticks_in(Session::Agreed(0), &[0; 7]).is_err());
+/// ```
+///
+/// # Errors
+///
+/// As [`read_in`](crate::read_in), but for the room.
+pub fn packet_ticks_in(session: Session, payload: &[u8]) -> Result<Ticks, Refusal> {
+    let time = ffi::packet_ticks_session(session.numbers(), payload);
+    ticks_answer(session.or(Call::PacketTicks), time)
+}
+
+fn ticks_answer(call: Call, time: ffi::Ticks) -> Result<Ticks, Refusal> {
+    answer(call, time.number, time.place, Ticks(time.ticks))
 }
 
 /// The ptime of 1 to 200 frames at rate 2400, 1200 or 600, rounded up.

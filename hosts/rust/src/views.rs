@@ -2,6 +2,7 @@
 #![forbid(unsafe_code)]
 
 use crate::ffi;
+use crate::session::Session;
 
 /// A row's wire octets, or the stand-in.
 #[derive(Clone, Copy, Debug, PartialEq, Eq)]
@@ -30,7 +31,23 @@ impl<'a> Shown<'a> {
 /// assert_eq!(moult::augmentation(&tsvcis, 1), []);
 /// ```
 pub fn augmentation(payload: &[u8], row: usize) -> &[u8] {
-    let part = ffi::augmentation(payload, row);
+    of_payload(ffi::augmentation(payload, row), payload)
+}
+
+/// [`augmentation`] in a session.
+///
+/// ```
+/// use moult::Session;
+/// let tsvcis = [0, 0, 0, 0, 0, 0, 0x40, 0xAA, 0x01, 0xFF];
+/// assert_eq!(moult::augmentation_in(Session::Agreed(2400), &tsvcis, 0), [0xAA]);
+/// assert_eq!(moult::augmentation_in(Session::NotAgreed, &tsvcis, 0), []);
+/// ```
+pub fn augmentation_in(session: Session, payload: &[u8], row: usize) -> &[u8] {
+    let part = ffi::augmentation_session(session.numbers(), payload, row);
+    of_payload(part, payload)
+}
+
+fn of_payload(part: ffi::Part, payload: &[u8]) -> &[u8] {
     &payload[part.start..][..part.length]
 }
 
@@ -44,9 +61,32 @@ pub fn augmentation(payload: &[u8], row: usize) -> &[u8] {
 /// assert_eq!(moult::frame_or(&payload, 2, b"last"), Shown::StandIn(b"last"));
 /// ```
 pub fn frame_or<'a>(payload: &'a [u8], row: usize, stand_in: &'a [u8]) -> Shown<'a> {
-    let part = ffi::frame_or(payload, row, stand_in);
+    shown(ffi::frame_or(payload, row, stand_in), payload, stand_in)
+}
+
+/// [`frame_or`] in a session.
+///
+/// ```
+/// use moult::{Session, Shown};
+/// let framed = [0, 0, 0, 0, 0, 0, 0x00, 0, 0, 0, 0, 0, 0, 0x40]; // bit 55 clear, then set
+/// let shown = |session| moult::frame_or_in(session, &framed, 1, b"last");
+/// assert_eq!(shown(Session::Agreed(600)), Shown::Frame(&[0, 0, 0, 0, 0, 0, 0x40]));
+/// assert_eq!(shown(Session::NotAgreed), Shown::StandIn(b"last"));
+/// assert_eq!(shown(Session::Agreed(1200)), Shown::StandIn(b"last"));
+/// ```
+pub fn frame_or_in<'a>(
+    session: Session,
+    payload: &'a [u8],
+    row: usize,
+    stand_in: &'a [u8],
+) -> Shown<'a> {
+    let part = ffi::frame_or_session(session.numbers(), payload, row, stand_in);
+    shown(part, payload, stand_in)
+}
+
+fn shown<'a>(part: ffi::Part, payload: &'a [u8], stand_in: &'a [u8]) -> Shown<'a> {
     if part.stand_in == 0 {
-        Shown::Frame(&payload[part.start..][..part.length])
+        Shown::Frame(of_payload(part, payload))
     } else {
         Shown::StandIn(&stand_in[part.start..][..part.length])
     }

@@ -1,6 +1,6 @@
 //! Every refusal in words: why, and what its place says in the call that gave it.
 
-use moult::{Refusal, Settings, journal};
+use moult::{Call, Refusal, Session, Settings, journal};
 
 fn read(payload: &[u8], rows: usize, octets: usize) -> Refusal {
     moult::read(payload, &mut vec![0; rows], &mut vec![0; octets]).unwrap_err()
@@ -98,6 +98,47 @@ fn of_the_writer() {
     says(
         short,
         "refusal 10: octet buffer too short, octets needed: 7",
+    );
+}
+
+/// Row 0 is not to blame for an agreed rate.
+#[test]
+fn of_a_session() {
+    let words = "refusal 12: unknown kind, rate or number of frames";
+    for rate in [0, 1200, 2401, u32::MAX] {
+        let session = Session::Agreed(rate);
+        let refusals = [
+            moult::read_in(session, &[0; 1401], &mut [], &mut []).unwrap_err(),
+            moult::write_in(session, &[9, 0, 1], &[], &mut []).unwrap_err(),
+            moult::packet_ticks_in(session, &[0; 7]).unwrap_err(),
+        ];
+        for refusal in refusals {
+            assert_eq!((refusal.call, refusal.place), (Call::Session, 0));
+            says(refusal, words);
+        }
+    }
+    let session = Session::Agreed(600);
+    says(
+        moult::write_in(session, &[9, 0], &[], &mut []).unwrap_err(),
+        &format!("{words}, at row 0 (from 0)"),
+    );
+    says(
+        moult::write_in(session, &[1, 0], &[], &mut []).unwrap_err(),
+        "refusal 8: rates mixed, at row 0 (from 0)",
+    );
+    says(
+        moult::write_in(session, &[3, 0], &[128; 7], &mut []).unwrap_err(),
+        "refusal 3: reserved or foreign bits set, at octet 6 of the bodies (from 0)",
+    );
+    says(
+        moult::read_in(
+            session,
+            &[64, 64, 64, 64, 64, 64, 64, 0, 1, 255],
+            &mut [],
+            &mut [],
+        )
+        .unwrap_err(),
+        "refusal 8: rates mixed, payload octets up to that frame's end: 10",
     );
 }
 

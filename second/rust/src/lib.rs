@@ -14,6 +14,7 @@ pub mod kinds;
 pub mod listing;
 pub mod payload;
 pub mod refusal;
+pub mod session;
 pub mod settings;
 pub mod time;
 pub mod views;
@@ -21,6 +22,7 @@ pub mod writer;
 
 pub use kinds::body_octets;
 pub use refusal::Refusal;
+pub use session::Session;
 
 /// Most octets of a payload.
 pub const MAX_OCTETS: usize = 1400;

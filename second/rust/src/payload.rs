@@ -7,6 +7,7 @@ use crate::refusal::{
     AUGMENTATION_NOT_2400, COMFORT_NOISE_NOT_LAST, FRAME_CUT, LONG_COUNT_ZERO, NUMBERS_TOO_SHORT,
     OCTETS_TOO_SHORT, RATES_MIXED, RESERVED_BITS, Refusal, TOO_LONG, refuse,
 };
+use crate::session::{Framing, Session};
 
 /// A frame as its last octets name it.
 #[derive(Clone, Copy)]
@@ -38,29 +39,31 @@ fn augmented(kind: Kind, tc: u8, count: usize) -> Named {
 
 /// Names the frame that ends the unread octets, whose last octet is `last`, or gives the refusal's
 /// number.
-#[inline]
-pub(crate) fn name(unread: &[u8], last: u8) -> Result<Named, u32> {
-    match last {
-        0..=63 => Ok(plain(PLAIN_2400)),
-        64..=127 => Ok(plain(PLAIN_600)),
-        128..=129 => Ok(plain(PLAIN_1200)),
-        130..=159 => Err(RESERVED_BITS),
-        160..=191 => Ok(plain(COMFORT_NOISE)),
-        192..=254 => Ok(augmented(TSVCIS, last - 192 + 15, 1)),
-        255 => match unread {
+#[inline(always)]
+pub(crate) fn name(framing: Framing, unread: &[u8], last: u8) -> Result<Named, u32> {
+    let plain = |kind| Ok(plain(framing.kind(kind)));
+    let augmented = |kind, tc, count| Ok(augmented(framing.kind(kind), tc, count));
+    match (last, framing) {
+        (0..=63, Framing::No) | (0..=127, Framing::At2400) => plain(PLAIN_2400),
+        (64..=127, Framing::No) | (0..=127, Framing::At600) => plain(PLAIN_600),
+        (128..=129, _) => plain(PLAIN_1200),
+        (130..=159, _) => Err(RESERVED_BITS),
+        (160..=191, _) => plain(COMFORT_NOISE),
+        (192..=254, _) => augmented(TSVCIS, last - 192 + 15, 1),
+        (255, _) => match unread {
             [.., 0, _] => Err(LONG_COUNT_ZERO),
-            [.., tc @ 15..=77, _] => Ok(augmented(TSVCIS_LONG, *tc, 2)),
-            [.., tc, _] => Ok(augmented(TSVCIS, *tc, 2)),
+            [.., tc @ 15..=77, _] => augmented(TSVCIS_LONG, *tc, 2),
+            [.., tc, _] => augmented(TSVCIS, *tc, 2),
             _ => Err(FRAME_CUT),
         },
     }
 }
 
-/// The same, and whether the frame may stand there: before `later` frames, whose coder frames are of
-/// the rate, 0 where there are none.
-#[inline]
-fn step(unread: &[u8], last: u8, later: usize, rate: u32) -> Result<Named, u32> {
-    let frame = name(unread, last)?;
+/// The same, and whether the frame may stand there: before `later` frames, where coder frames must be
+/// of the rate, 0 for any.
+#[inline(always)]
+fn step(framing: Framing, unread: &[u8], last: u8, later: usize, rate: u32) -> Result<Named, u32> {
+    let frame = name(framing, unread, last)?;
     let Some(start) = unread.len().checked_sub(frame.wire) else {
         return Err(FRAME_CUT);
     };
@@ -91,15 +94,20 @@ pub struct Walked {
     pub ticks: usize,
 }
 
-#[inline]
-pub fn walk(payload: &[u8]) -> Result<Walked, Refusal> {
+/// Until a coder frame is read an agreed rate holds, which is not reported.
+#[inline(always)]
+pub(crate) fn walk_framed(framing: Framing, payload: &[u8]) -> Result<Walked, Refusal> {
     if payload.len() > MAX_OCTETS {
         return refuse(TOO_LONG, MAX_OCTETS);
     }
     let mut walked = Walked::default();
     let mut unread = payload;
     while let Some(&last) = unread.last() {
-        let frame = match step(unread, last, walked.frames, walked.rate) {
+        let rate = match walked.rate {
+            0 => framing.first_rate(),
+            rate => rate,
+        };
+        let frame = match step(framing, unread, last, walked.frames, rate) {
             Ok(frame) => frame,
             Err(number) => return refuse(number, unread.len()),
         };
@@ -114,6 +122,16 @@ pub fn walk(payload: &[u8]) -> Result<Walked, Refusal> {
     Ok(walked)
 }
 
+#[inline]
+pub fn walk_in(session: Session, payload: &[u8]) -> Result<Walked, Refusal> {
+    walk_framed(session.framing()?, payload)
+}
+
+#[inline]
+pub fn walk(payload: &[u8]) -> Result<Walked, Refusal> {
+    walk_in(Session::NotAgreed, payload)
+}
+
 /// Frames, or minus the refusal's number.
 pub fn count(payload: &[u8]) -> i32 {
     match walk(payload) {
@@ -123,10 +141,11 @@ pub fn count(payload: &[u8]) -> i32 {
 }
 
 /// Fills from the end: what is lent is as long as what a walk came to.
-fn fill(payload: &[u8], mut rows: &mut [u16], mut bodies: &mut [u8]) {
+#[inline(always)]
+fn fill(framing: Framing, payload: &[u8], mut rows: &mut [u16], mut bodies: &mut [u8]) {
     let mut unread = payload;
     while let Some(&last) = unread.last() {
-        let Ok(Named { kind, tc, wire }) = name(unread, last) else {
+        let Ok(Named { kind, tc, wire }) = name(framing, unread, last) else {
             return;
         };
         let (front, frame) = unread.split_at(unread.len() - wire);
@@ -142,7 +161,18 @@ fn fill(payload: &[u8], mut rows: &mut [u16], mut bodies: &mut [u8]) {
 
 #[inline]
 pub fn read(payload: &[u8], rows: &mut [u16], bodies: &mut [u8]) -> Result<Walked, Refusal> {
-    let walked = walk(payload)?;
+    read_in(Session::NotAgreed, payload, rows, bodies)
+}
+
+#[inline]
+pub fn read_in(
+    session: Session,
+    payload: &[u8],
+    rows: &mut [u16],
+    bodies: &mut [u8],
+) -> Result<Walked, Refusal> {
+    let framing = session.framing()?;
+    let walked = walk_framed(framing, payload)?;
     let Walked { frames, octets, .. } = walked;
     if rows.len() / 2 < frames {
         return refuse(NUMBERS_TOO_SHORT, frames);
@@ -150,6 +180,6 @@ pub fn read(payload: &[u8], rows: &mut [u16], bodies: &mut [u8]) -> Result<Walke
     let Some(filled) = bodies.get_mut(..octets) else {
         return refuse(OCTETS_TOO_SHORT, octets);
     };
-    fill(payload, &mut rows[..2 * frames], filled);
+    fill(framing, payload, &mut rows[..2 * frames], filled);
     Ok(walked)
 }

@@ -1,8 +1,9 @@
 //! Time on the clock, in ticks of 1/8000 second, and time in settings, in milliseconds ("Time").
 
 use crate::MAX_FRAMES;
-use crate::payload::walk;
+use crate::payload::walk_in;
 use crate::refusal::{Refusal, UNKNOWN, refuse};
+use crate::session::Session;
 
 /// Ticks of a coder frame of the rate, 0 where it is none.
 pub(crate) const fn ticks_of(rate: u32) -> usize {
@@ -15,7 +16,12 @@ pub(crate) const fn ticks_of(rate: u32) -> usize {
 }
 
 pub fn packet_ticks(payload: &[u8]) -> Result<usize, Refusal> {
-    walk(payload).map(|walked| walked.ticks)
+    packet_ticks_in(Session::NotAgreed, payload)
+}
+
+#[inline]
+pub fn packet_ticks_in(session: Session, payload: &[u8]) -> Result<usize, Refusal> {
+    walk_in(session, payload).map(|walked| walked.ticks)
 }
 
 /// Milliseconds, rounded up.

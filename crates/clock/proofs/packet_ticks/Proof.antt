@@ -1,34 +1,34 @@
--- `clock::packet_ticks` gives the ticks of the walk.
-use Rattle.clock.proofs.Times.{packet-whole, packet-refused}
+-- `clock::packet_ticks` asks for the session's framing, and gives the ticks with it.
+use Rattle.clock.proofs.Times.{packet-unknown, packet-known}
 use borrow.Author.Needs.{needs}
 use Rattle.clock.proofs.packet_ticks.Statement.{statement}
 use Rattle.clock.proofs.packet_ticks.Tie as tie
 
-walk-requires : tie.Need-walk-requires
-walk-requires c κs = search needs
+framing-of-requires : tie.Need-framing-of-requires
+framing-of-requires c κs = search needs
 
-enum-known-walked : tie.Need-enum-known-walked
-enum-known-walked c = search needs
+enum-told : tie.Need-enum-told
+enum-told c = search needs
 
-ticks-of-requires : tie.Need-ticks-of-requires
-ticks-of-requires c κs = search needs
+enum-known-known : tie.Need-enum-known-known
+enum-known-known c = search needs
 
-enum-known-walked-2 : tie.Need-enum-known-walked-2
-enum-known-walked-2 c = search needs
+packet-ticks-framed-requires : tie.Need-packet-ticks-framed-requires
+packet-ticks-framed-requires c κs = search needs
 
 returns : tie.Need-returns
-returns c = packet-whole _ (λ i. c .before .before .before .before .before .shared-slice-known .given i .fits) (c .before .before .before .before .walk .ensures .answer) _ (c .before .before .walked .given .1) (c .ticks-of .ensures)
+returns c = packet-unknown _ _ (c .before .before .framing-of .ensures .answer) (c .enum-told .given .1)
 
 returns-2 : tie.Need-returns-2
-returns-2 c = packet-refused _ (λ i. c .before .before .before .before .shared-slice-known .given i .fits) (c .before .before .before .walk .ensures .answer) _ (c .before .walked2 .given .1)
+returns-2 c = packet-known _ _ (c .before .before .before .before .framing-of .ensures .answer) (λ i. c .before .before .before .before .before .shared-slice-known .given i .fits) _ (c .before .before .known .given .1) (c .packet-ticks-framed .ensures)
 
 pub packet-ticks-spec : {M : Type 1} → statement M
 packet-ticks-spec =
     tie.close
     (tie.spec
-    walk-requires
-    enum-known-walked
-    ticks-of-requires
-    enum-known-walked-2
+    framing-of-requires
+    enum-told
+    enum-known-known
+    packet-ticks-framed-requires
     returns
     returns-2)

@@ -8,10 +8,10 @@ use Rattle.reader.proofs.fill.Statement.{statement}
 use Rattle.reader.proofs.fill.Tie as tie
 
 abbrev Inv-loop : tie.InvT-loop
-Inv-loop payload rows₀ bodies₀ frames octets unread₀ index₀ at₀ rows bodies unread index at = FillLoop payload rows₀ bodies₀ unread index at rows bodies
+Inv-loop framing payload rows₀ bodies₀ frames octets unread₀ index₀ at₀ rows bodies unread index at = FillLoop framing payload rows₀ bodies₀ unread index at rows bodies
 
 abbrev μ-loop : tie.MeasureT-loop
-μ-loop payload rows₀ bodies₀ frames octets unread₀ index₀ at₀ rows bodies unread index at = unread
+μ-loop framing payload rows₀ bodies₀ frames octets unread₀ index₀ at₀ rows bodies unread index at = unread
 
 -- the loop's head, seen from the turn's frame
 abbrev head : tie.After-shape-of Inv-loop μ-loop → tie.At-loop Inv-loop μ-loop
@@ -22,11 +22,11 @@ start c = c .before .before .before .before
 
 -- the turn's frame
 turn : (c : tie.After-shape-of Inv-loop μ-loop)
-    → Turn (start (head c) .args .payload .now) (start (head c) .args .rows .now) (start (head c) .args .bodies .now) (head c .loop .unread) (head c .loop .index) (head c .loop .at) (head c .loop .rows) (head c .loop .bodies) (c .before .before .ending .given .0 .0) (c .shape-of .result)
-turn c = fill-turn _ _ _ _ _ _ _ _ (head c .loop .inv) (c .before .before .before .before .before .before .loop-test .taken) _ _ (c .before .before .ending .given .1) (c .before .before .before .before .identify .ensures .answer) (c .shape-of .ensures)
+    → Turn (start (head c) .args .framing) (start (head c) .args .payload .now) (start (head c) .args .rows .now) (start (head c) .args .bodies .now) (head c .loop .unread) (head c .loop .index) (head c .loop .at) (head c .loop .rows) (head c .loop .bodies) (c .before .before .ending .given .0 .0) (c .shape-of .result)
+turn c = fill-turn _ _ _ _ _ _ _ _ _ (head c .loop .inv) (c .before .before .before .before .before .before .loop-test .taken) _ _ (c .before .before .ending .given .1) (c .before .before .before .before .identify .ensures .answer) (c .shape-of .ensures)
 
 loop-holds : tie.Need-loop-holds Inv-loop μ-loop
-loop-holds c = fill-start _ _ _ _ _ (c .before .before .before .pre)
+loop-holds c = fill-start _ _ _ _ _ _ (c .before .before .before .pre)
 
 slice-aggregate-identify : tie.Need-slice-aggregate-identify Inv-loop μ-loop
 slice-aggregate-identify c = sym (length-take-le _ _ (c .before .before .loop .inv .inside))
@@ -47,7 +47,7 @@ same-length-2 : tie.Need-same-length-2 Inv-loop μ-loop
 same-length-2 c = c .before .before .before .before .before .loop .inv .body-length
 
 returns : tie.Need-returns Inv-loop μ-loop
-returns c = absurd (fill-named _ _ _ _ _ _ _ _ (c .before .before .before .before .before .loop .inv) (c .before .before .before .before .loop-test .taken) _ (c .enum-told .given .1) (c .before .before .identify .ensures .answer))
+returns c = absurd (fill-named _ _ _ _ _ _ _ _ _ (c .before .before .before .before .before .loop .inv) (c .before .before .before .before .loop-test .taken) _ (c .enum-told .given .1) (c .before .before .identify .ensures .answer))
 
 shape-of-requires : tie.Need-shape-of-requires Inv-loop μ-loop
 shape-of-requires c κs = search needs
@@ -80,7 +80,7 @@ same-length-4 : tie.Need-same-length-4 Inv-loop μ-loop
 same-length-4 c = c .before .loop .inv .body-length
 
 returns-2 : tie.Need-returns-2 Inv-loop μ-loop
-returns-2 c = fill-end _ _ _ _ _ _ _ _ (c .before .loop .inv) (c .loop-test .left)
+returns-2 c = fill-end _ _ _ _ _ _ _ _ _ (c .before .loop .inv) (c .loop-test .left)
 
 pub fill-spec : {M : Type 1} → statement M
 fill-spec =

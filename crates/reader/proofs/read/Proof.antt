@@ -1,41 +1,32 @@
--- `reader::read` keeps its promise at each of its returns.
+-- `reader::read` asks for the session's framing, and reads with it.
 use borrow.Author.Needs.{needs}
 use Rattle.octets.specs.Octet.{Octets}
-use Rattle.reader.proofs.ReadCases.{case-refused, case-few-numbers, case-few-octets, case-fillable, case-read}
+use Rattle.reader.proofs.ReadCases.{case-unknown, case-known}
 use Rattle.reader.proofs.read.Statement.{statement}
 use Rattle.reader.proofs.read.Tie as tie
 
-abbrev start : tie.After-walk → tie.Start
-start c = c .before .before .before .before
-
--- the payload's octets, where the walk has answered
-octets : (c : tie.After-walk) → Octets (start c .args .payload .now)
+-- the payload's octets, where the framing is asked for
+octets : (c : tie.After-framing-of) → Octets (c .before .before .before .before .args .payload .now)
 octets c i = c .before .before .before .shared-slice-known .given i .fits
 
--- the walk's answer, where it accepted
-abbrev walked : tie.After-known-told2 → tie.After-walk
-walked c = c .before .before .before
+-- the framing's answer, where the payload was read with it
+abbrev framing : tie.After-read-framed → tie.After-framing-of
+framing c = c .before .before .before .before .before .before
 
-walk-requires : tie.Need-walk-requires
-walk-requires c κs = search needs
+framing-of-requires : tie.Need-framing-of-requires
+framing-of-requires c κs = search needs
 
-enum-known-walked : tie.Need-enum-known-walked
-enum-known-walked c = search needs
+enum-told : tie.Need-enum-told
+enum-told c = search needs
 
-enum-known-walked-2 : tie.Need-enum-known-walked-2
-enum-known-walked-2 c = search needs
+enum-known-known : tie.Need-enum-known-known
+enum-known-known c = search needs
+
+read-framed-requires : tie.Need-read-framed-requires
+read-framed-requires c κs = search needs
 
 returns : tie.Need-returns
-returns c = case-few-numbers _ _ _ (octets (walked (c .before))) (walked (c .before) .walk .ensures .answer) _ (c .before .before .walked2 .given .1) (c .if1 .taken)
-
-returns-2 : tie.Need-returns-2
-returns-2 c = case-few-octets _ _ _ (octets (walked (c .before .before))) (walked (c .before .before) .walk .ensures .answer) _ (c .before .before .before .walked2 .given .1) (c .before .if1 .left) (c .if2 .taken)
-
-fill-requires : tie.Need-fill-requires
-fill-requires c κs = case-fillable _ (start (walked (c .before .before .before .before)) .args .rows .now) (start (walked (c .before .before .before .before)) .args .bodies .now) (octets (walked (c .before .before .before .before))) (walked (c .before .before .before .before) .walk .ensures .answer) _ (c .before .before .before .before .before .walked2 .given .1) (c .before .before .before .if1 .left) (c .before .before .if2 .left)
-
-returns-3 : tie.Need-returns-3
-returns-3 c = case-refused _ _ _ (octets (c .before .before .before)) (c .before .before .before .walk .ensures .answer) _ (c .before .walked .given .1)
+returns c = case-unknown _ _ _ _ (c .before .before .framing-of .ensures .answer) (c .enum-told .given .1)
 
 same-length : tie.Need-same-length
 same-length c = search needs
@@ -43,20 +34,18 @@ same-length c = search needs
 same-length-2 : tie.Need-same-length-2
 same-length-2 c = search needs
 
-returns-4 : tie.Need-returns-4
-returns-4 c = case-read _ _ _ (octets (walked (c .before .before .before .before .before .before .before .before .before))) (walked (c .before .before .before .before .before .before .before .before .before) .walk .ensures .answer) _ (c .before .before .before .before .before .before .before .before .before .before .walked2 .given .1) (c .before .before .before .before .before .before .before .before .if1 .left) (c .before .before .before .before .before .before .before .if2 .left) (c .before .before .before .before .fill .ensures .0) (c .before .before .before .before .fill .ensures .1)
+returns-2 : tie.Need-returns-2
+returns-2 c = case-known _ _ _ _ (framing (c .before .before .before .before) .framing-of .ensures .answer) (octets (framing (c .before .before .before .before))) _ (c .before .before .before .before .before .before .before .before .known .given .1) (c .before .before .before .before .read-framed .ensures)
 
 pub read-spec : {M : Type 1} → statement M
 read-spec =
     tie.close
     (tie.spec
-    walk-requires
-    enum-known-walked
-    enum-known-walked-2
+    framing-of-requires
+    enum-told
+    enum-known-known
+    read-framed-requires
     returns
-    returns-2
-    fill-requires
-    returns-3
     same-length
     same-length-2
-    returns-4)
+    returns-2)

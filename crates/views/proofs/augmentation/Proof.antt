@@ -18,13 +18,13 @@ enum-known-location : tie.Need-enum-known-location
 enum-known-location c = search needs
 
 part-of-requires : tie.Need-part-of-requires
-part-of-requires c κs = within _ _ (λ i. c .before .before .before .before .shared-slice-known .given i .fits) (c .before .before .before .locate .ensures .answer) _ _ (c .before .location .given .1) .augmentation
+part-of-requires c κs = within _ _ _ (λ i. c .before .before .before .before .shared-slice-known .given i .fits) (c .before .before .before .locate .ensures) _ _ (c .before .location .given .1) .augmentation
 
 returns : tie.Need-returns
-returns c = augmentation-missing _ _ (λ i. c .before .before .before .before .shared-slice-known .given i .fits) (c .before .before .before .locate .ensures .answer) (c .before .enum-told .given .1)
+returns c = augmentation-missing _ _ _ (λ i. c .before .before .before .before .shared-slice-known .given i .fits) (c .before .before .before .locate .ensures .answer) (c .before .enum-told .given .1)
 
 returns-2 : tie.Need-returns-2
-returns-2 c = augmentation-at _ _ (λ i. c .before .before .before .before .before .shared-slice-known .given i .fits) (c .before .before .before .before .locate .ensures .answer) _ _ (c .before .before .location .given .1) (c .part-of .ensures)
+returns-2 c = augmentation-at _ _ _ (λ i. c .before .before .before .before .before .shared-slice-known .given i .fits) (c .before .before .before .before .locate .ensures .answer) _ _ (c .before .before .location .given .1) (c .part-of .ensures)
 
 pub augmentation-spec : {M : Type 1} → statement M
 augmentation-spec =

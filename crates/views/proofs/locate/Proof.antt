@@ -1,41 +1,34 @@
--- `views::locate` gives the location of the row, or missing where the walk refuses or holds no such row.
+-- `views::locate` gives the location of the row in a legal session, or missing.
 use borrow.Author.Needs.{needs}
-use Rattle.views.proofs.RowLocation.{locates, walk-refused, walk-holds, walk-past}
+use Rattle.views.proofs.RowLocation.{unknown-missing, framed-located}
 use Rattle.views.proofs.locate.Statement.{statement}
 use Rattle.views.proofs.locate.Tie as tie
 
-walk-requires : tie.Need-walk-requires
-walk-requires c κs = search needs
+framing-of-requires : tie.Need-framing-of-requires
+framing-of-requires c κs = search needs
 
 enum-told : tie.Need-enum-told
 enum-told c = search needs
 
-enum-known-walked : tie.Need-enum-known-walked
-enum-known-walked c = search needs
+enum-known-known : tie.Need-enum-known-known
+enum-known-known c = search needs
+
+locate-framed-requires : tie.Need-locate-framed-requires
+locate-framed-requires c κs = search needs
 
 returns : tie.Need-returns
-returns c = walk-past _ (λ i. c .before .before .before .before .before .shared-slice-known .given i .fits) (c .before .before .before .before .walk .ensures) _ (c .before .before .walked .given .1) _ (c .if1 .taken)
-
-step-back-requires : tie.Need-step-back-requires
-step-back-requires c κs = (
-  walk-holds _ (λ i. c .before .before .before .before .before .shared-slice-known .given i .fits) (c .before .before .before .before .walk .ensures) _ (c .before .before .walked .given .1),
-  c .if1 .left,
-)
+returns c = unknown-missing _ _ _ (λ i. c .before .before .before .shared-slice-known .given i .fits) (c .before .before .framing-of .ensures) (c .enum-told .given .1)
 
 returns-2 : tie.Need-returns-2
-returns-2 c = walk-refused _ (λ i. c .before .before .before .shared-slice-known .given i .fits) (c .before .before .walk .ensures) _ (c .enum-told .given .1) _
-
-returns-3 : tie.Need-returns-3
-returns-3 c = locates _ _ (λ i. c .before .before .before .before .before .before .shared-slice-known .given i .fits) (c .step-back .ensures)
+returns-2 c = framed-located _ _ _ (λ i. c .before .before .before .before .before .shared-slice-known .given i .fits) (c .before .before .before .before .framing-of .ensures) _ (c .before .before .known .given .1) (c .locate-framed .ensures)
 
 pub locate-spec : {M : Type 1} → statement M
 locate-spec =
     tie.close
     (tie.spec
-    walk-requires
+    framing-of-requires
     enum-told
-    enum-known-walked
+    enum-known-known
+    locate-framed-requires
     returns
-    step-back-requires
-    returns-2
-    returns-3)
+    returns-2)

@@ -8,20 +8,20 @@ use Rattle.views.proofs.step_back.Statement.{statement}
 use Rattle.views.proofs.step_back.Tie as tie
 
 abbrev Inv-loop : tie.InvT-loop
-Inv-loop payload row frames unread₀ rows₀ unread rows = StepBackLoop payload row unread rows
+Inv-loop framing payload row frames unread₀ rows₀ unread rows = StepBackLoop framing payload row unread rows
 
 abbrev μ-loop : tie.MeasureT-loop
-μ-loop payload row frames unread₀ rows₀ unread rows = rows
+μ-loop framing payload row frames unread₀ rows₀ unread rows = rows
 
 -- the frame that the unread octets end in
-passed : (c : tie.After-struct-known Inv-loop μ-loop) → Passed _ _ _ _ (c .before .before .before .before .before .before .before .loop .inv) (c .before .shape-of .result)
-passed c = loop-passed _ _ _ _ _ _ (c .before .before .before .ending .given .1) (c .before .before .before .before .before .identify .ensures) (c .before .shape-of .ensures)
+passed : (c : tie.After-struct-known Inv-loop μ-loop) → Passed _ _ _ _ _ (c .before .before .before .before .before .before .before .loop .inv) (c .before .shape-of .result)
+passed c = loop-passed _ _ _ _ _ _ _ (c .before .before .before .ending .given .1) (c .before .before .before .before .before .identify .ensures) (c .before .shape-of .ensures)
 
 loop-holds : tie.Need-loop-holds Inv-loop μ-loop
-loop-holds c = loop-start _ _ _ (c .before .pre)
+loop-holds c = loop-start _ _ _ _ (c .before .pre)
 
 slice-aggregate-identify : tie.Need-slice-aggregate-identify Inv-loop μ-loop
-slice-aggregate-identify c = sym (length-take-le _ _ (loop-inside _ _ _ _ (c .before .loop .inv)))
+slice-aggregate-identify c = sym (length-take-le _ _ (loop-inside _ _ _ _ _ (c .before .loop .inv)))
 
 identify-requires : tie.Need-identify-requires Inv-loop μ-loop
 identify-requires c κs = search needs
@@ -30,7 +30,7 @@ enum-told : tie.Need-enum-told Inv-loop μ-loop
 enum-told c = search needs
 
 returns : tie.Need-returns Inv-loop μ-loop
-returns c = absurd (loop-refused _ _ _ _ (c .before .before .before .before .loop .inv) _ (c .enum-told .given .1) (c .before .before .identify .ensures))
+returns c = absurd (loop-refused _ _ _ _ _ (c .before .before .before .before .loop .inv) _ (c .enum-told .given .1) (c .before .before .identify .ensures))
 
 enum-known-ending : tie.Need-enum-known-ending Inv-loop μ-loop
 enum-known-ending c = search needs

@@ -7,7 +7,7 @@ use Rattle.wire.proofs.identify.Statement.{statement}
 use Rattle.wire.proofs.identify.Tie as tie
 
 returns : tie.Need-returns
-returns c = identified _ (sym (ending-none _ _ (omega arith)))
+returns c = identified _ _ (sym (ending-none _ _ _ (omega arith)))
 
 sub-x : tie.Need-sub-x
 sub-x c = search needs
@@ -19,10 +19,10 @@ last-octet-requires : tie.Need-last-octet-requires
 last-octet-requires c κs = search needs
 
 returns-2 : tie.Need-returns-2
-returns-2 c = identified _ (c .last-octet .ensures ∙ sym (ending-one _ _ _ (omega arith) refl (omega arith)))
+returns-2 c = identified _ _ (c .last-octet .ensures ∙ sym (ending-one _ _ _ _ (omega arith) refl (omega arith)))
 
 returns-3 : tie.Need-returns-3
-returns-3 c = identified _ (sym (ending-alone _ _ (omega arith) (omega arith)))
+returns-3 c = identified _ _ (sym (ending-alone _ _ _ (omega arith) (omega arith)))
 
 sub-long-count : tie.Need-sub-long-count
 sub-long-count c = search needs
@@ -34,7 +34,7 @@ long-count-requires : tie.Need-long-count-requires
 long-count-requires c κs = search needs
 
 returns-4 : tie.Need-returns-4
-returns-4 c = identified _ (c .long-count .ensures ∙ sym (ending-two _ _ _ (omega arith) (omega arith) refl))
+returns-4 c = identified _ _ (c .long-count .ensures ∙ sym (ending-two _ _ _ _ (omega arith) (omega arith) refl))
 
 pub identify-spec : {M : Type 1} → statement M
 identify-spec =

@@ -2,7 +2,7 @@
 use mathlib.Core.Path.{refl}
 use native.Mathlib.Omega.{arith}
 use borrow.Author.Needs.{needs}
-use Rattle.wire.proofs.StepCases.{step-refused, step-names, step-octet, names-noise, names-short}
+use Rattle.wire.proofs.StepCases.{step-refused, step-names, step-octet, names-low, names-noise, names-short}
 use Rattle.wire.proofs.next_frame.Statement.{statement}
 use Rattle.wire.proofs.next_frame.Tie as tie
 
@@ -12,20 +12,20 @@ sub-x c = search needs
 shared-slice-read-x : tie.Need-shared-slice-read-x
 shared-slice-read-x c = search needs
 
-low-row-requires : tie.Need-low-row-requires
-low-row-requires c κs = search needs
+low-kind-requires : tie.Need-low-kind-requires
+low-kind-requires c κs = search needs
 
 admit-requires : tie.Need-admit-requires
 admit-requires c κs = search needs
 
 returns : tie.Need-returns
-returns c = step-octet _ _ _ _ _ _ (omega arith) refl (omega arith) (c .before .low-row .ensures) (c .admit .ensures)
+returns c = step-octet _ _ _ _ _ _ _ (omega arith) refl (omega arith) (names-low _ _ (omega arith) (c .before .low-kind .ensures)) (c .admit .ensures)
 
 admit-requires-2 : tie.Need-admit-requires-2
 admit-requires-2 c κs = search needs
 
 returns-2 : tie.Need-returns-2
-returns-2 c = step-octet _ _ _ _ _ _ (omega arith) refl (omega arith) (names-noise _ (omega arith) (omega arith)) (c .admit2 .ensures)
+returns-2 c = step-octet _ _ _ _ _ _ _ (omega arith) refl (omega arith) (names-noise _ _ (omega arith) (omega arith)) (c .admit2 .ensures)
 
 cast-short : tie.Need-cast-short
 cast-short c = search needs
@@ -37,7 +37,7 @@ admit-requires-3 : tie.Need-admit-requires-3
 admit-requires-3 c κs = search needs
 
 returns-3 : tie.Need-returns-3
-returns-3 c = step-octet _ _ _ _ _ _ (omega arith) refl (omega arith) (names-short _ _ (omega arith) refl) (c .admit3 .ensures)
+returns-3 c = step-octet _ _ _ _ _ _ _ (omega arith) refl (omega arith) (names-short _ _ _ (omega arith) refl) (c .admit3 .ensures)
 
 identify-requires : tie.Need-identify-requires
 identify-requires c κs = search needs
@@ -52,10 +52,10 @@ admit-requires-4 : tie.Need-admit-requires-4
 admit-requires-4 c κs = search needs
 
 returns-4 : tie.Need-returns-4
-returns-4 c = step-refused _ _ _ _ (c .before .before .before .identify .ensures .answer) _ (c .before .ending .given .1)
+returns-4 c = step-refused _ _ _ _ _ (c .before .before .before .identify .ensures .answer) _ (c .before .ending .given .1)
 
 returns-5 : tie.Need-returns-5
-returns-5 c = step-names _ _ _ _ (c .before .before .before .before .identify .ensures .answer) _ (c .before .before .ending2 .given .1) (c .admit4 .ensures)
+returns-5 c = step-names _ _ _ _ _ (c .before .before .before .before .identify .ensures .answer) _ (c .before .before .ending2 .given .1) (c .admit4 .ensures)
 
 pub next-frame-spec : {M : Type 1} → statement M
 next-frame-spec =
@@ -63,7 +63,7 @@ next-frame-spec =
     (tie.spec
     sub-x
     shared-slice-read-x
-    low-row-requires
+    low-kind-requires
     admit-requires
     returns
     admit-requires-2

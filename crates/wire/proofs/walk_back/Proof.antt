@@ -9,13 +9,16 @@ use Rattle.wire.proofs.walk_back.Statement.{statement}
 use Rattle.wire.proofs.walk_back.Tie as tie
 
 abbrev Inv-loop : tie.InvT-loop
-Inv-loop payload unread₀ frames₀ coders₀ octets₀ rate₀ unread frames coders octets rate = WalkLoop payload unread (counted frames coders octets rate) × (coders ≤ frames) × (rate ≡ 0 → coders ≡ 0)
+Inv-loop framing payload unread₀ frames₀ coders₀ octets₀ rate₀ wanted₀ unread frames coders octets rate wanted = WalkLoop framing payload unread (counted frames coders octets rate) wanted × (coders ≤ frames) × (rate ≡ 0 → coders ≡ 0)
 
 abbrev μ-loop : tie.MeasureT-loop
-μ-loop payload unread₀ frames₀ coders₀ octets₀ rate₀ unread frames coders octets rate = unread
+μ-loop framing payload unread₀ frames₀ coders₀ octets₀ rate₀ wanted₀ unread frames coders octets rate wanted = unread
+
+agreed-rate-requires : tie.Need-agreed-rate-requires Inv-loop μ-loop
+agreed-rate-requires c κs = search needs
 
 loop-holds : tie.Need-loop-holds Inv-loop μ-loop
-loop-holds c = (loop-start _ (c .before .pre), omega arith, λ e. refl)
+loop-holds c = (loop-start _ _ (c .before .before .pre) (c .agreed-rate .ensures), omega arith, λ e. refl)
 
 slice-aggregate-next-frame : tie.Need-slice-aggregate-next-frame Inv-loop μ-loop
 slice-aggregate-next-frame c = sym (length-take-le _ _ (omega (arith, c .before .before .loop .inv .0 .few)))
@@ -27,14 +30,14 @@ enum-known-step : tie.Need-enum-known-step Inv-loop μ-loop
 enum-known-step c = search needs
 
 returns : tie.Need-returns Inv-loop μ-loop
-returns c = loop-refused _ _ _ (c .before .before .before .before .before .before .loop .inv .0) (c .before .before .before .before .before .loop-test .taken) _ (c .before .step .given .1) (c .before .before .before .next-frame .ensures)
+returns c = loop-refused _ _ _ _ _ (c .before .before .before .before .before .before .loop .inv .0) (c .before .before .before .before .before .loop-test .taken) _ (c .before .step .given .1) (c .before .before .before .next-frame .ensures)
 
 enum-known-step-2 : tie.Need-enum-known-step-2 Inv-loop μ-loop
 enum-known-step-2 c = search needs
 
 -- the turn's frame fits
 fits : (c : tie.After-struct-known Inv-loop μ-loop) → Fits (c .before .before .before .before .before .before .before .loop .unread) (counted (c .before .before .before .before .before .before .before .loop .frames) (c .before .before .before .before .before .before .before .loop .coders) (c .before .before .before .before .before .before .before .loop .octets) (c .before .before .before .before .before .before .before .loop .rate)) (c .before .before .step2 .given .0 .0)
-fits c = loop-fits _ _ _ (c .before .before .before .before .before .before .before .loop .inv .0) (c .before .before .before .before .before .before .loop-test .taken) (λ i. c .before .before .before .before .before .before .before .before .shared-slice-known .given i .fits) _ (c .before .before .step2 .given .1) (c .before .before .before .before .next-frame .ensures)
+fits c = loop-fits _ _ _ _ _ (c .before .before .before .before .before .before .before .loop .inv .0) (c .before .before .before .before .before .before .loop-test .taken) (λ i. c .before .before .before .before .before .before .before .before .before .shared-slice-known .given i .fits) _ (c .before .before .step2 .given .1) (c .before .before .before .before .next-frame .ensures)
 
 sub-unread : tie.Need-sub-unread Inv-loop μ-loop
 sub-unread c = fits c .wire
@@ -53,28 +56,28 @@ loop-less c = let f = fits (c .before .before .before) in omega (arith, f .some,
 
 loop-again : tie.Need-loop-again Inv-loop μ-loop
 loop-again c =
-    let d = added-coder (c .before .before .before .before .before .before .before .before .before .before .loop .frames) (c .before .before .before .before .before .before .before .before .before .before .loop .coders) (c .before .before .before .before .before .before .before .before .before .before .loop .octets) (c .before .before .before .before .before .before .before .before .before .before .loop .rate) (c .before .before .before .before .before .step2 .given .0 .0) (c .if1 .taken) (c .before .before .before .before .before .before .before .before .before .before .loop .inv .2) (loop-rate _ _ _ (c .before .before .before .before .before .before .before .before .before .before .loop .inv .0) (c .before .before .before .before .before .before .before .before .before .loop-test .taken) (λ i. c .before .before .before .before .before .before .before .before .before .before .before .shared-slice-known .given i .fits) _ (c .before .before .before .before .before .step2 .given .1) (c .before .before .before .before .before .before .before .next-frame .ensures) (c .if1 .taken)) in
-    (loop-over _ _ _ (c .before .before .before .before .before .before .before .before .before .before .loop .inv .0) (c .before .before .before .before .before .before .before .before .before .loop-test .taken) (λ i. c .before .before .before .before .before .before .before .before .before .before .before .shared-slice-known .given i .fits) _ (c .before .before .before .before .before .step2 .given .1) (c .before .before .before .before .before .before .before .next-frame .ensures) _ d, omega (arith, (c .before .before .before .before .before .before .before .before .before .before .loop .inv .1)), λ e. absurd (c .if1 .taken e))
+    let d = added-coder (c .before .before .before .before .before .before .before .before .before .before .loop .frames) (c .before .before .before .before .before .before .before .before .before .before .loop .coders) (c .before .before .before .before .before .before .before .before .before .before .loop .octets) (c .before .before .before .before .before .before .before .before .before .before .loop .rate) (c .before .before .before .before .before .before .before .before .before .before .loop .wanted) (c .before .before .before .before .before .step2 .given .0 .0) (c .if1 .taken) (c .before .before .before .before .before .before .before .before .before .before .loop .inv .2) (loop-rate _ _ _ _ _ (c .before .before .before .before .before .before .before .before .before .before .loop .inv .0) (c .before .before .before .before .before .before .before .before .before .loop-test .taken) (λ i. c .before .before .before .before .before .before .before .before .before .before .before .before .shared-slice-known .given i .fits) _ (c .before .before .before .before .before .step2 .given .1) (c .before .before .before .before .before .before .before .next-frame .ensures) (c .if1 .taken)) in
+    (loop-over _ _ _ _ _ (c .before .before .before .before .before .before .before .before .before .before .loop .inv .0) (c .before .before .before .before .before .before .before .before .before .loop-test .taken) (λ i. c .before .before .before .before .before .before .before .before .before .before .before .before .shared-slice-known .given i .fits) _ (c .before .before .before .before .before .step2 .given .1) (c .before .before .before .before .before .before .before .next-frame .ensures) _ _ d, omega (arith, (c .before .before .before .before .before .before .before .before .before .before .loop .inv .1)), λ e. absurd (c .if1 .taken e))
 
 loop-less-2 : tie.Need-loop-less-2 Inv-loop μ-loop
 loop-less-2 c = let f = fits (c .before .before .before) in omega (arith, f .some, f .wire)
 
 loop-again-2 : tie.Need-loop-again-2 Inv-loop μ-loop
 loop-again-2 c =
-    let d = added-noise (c .before .before .before .before .before .before .before .before .before .before .loop .frames) (c .before .before .before .before .before .before .before .before .before .before .loop .coders) (c .before .before .before .before .before .before .before .before .before .before .loop .octets) (c .before .before .before .before .before .before .before .before .before .before .loop .rate) (c .before .before .before .before .before .step2 .given .0 .0) (c .if1 .left) in
-    (loop-over _ _ _ (c .before .before .before .before .before .before .before .before .before .before .loop .inv .0) (c .before .before .before .before .before .before .before .before .before .loop-test .taken) (λ i. c .before .before .before .before .before .before .before .before .before .before .before .shared-slice-known .given i .fits) _ (c .before .before .before .before .before .step2 .given .1) (c .before .before .before .before .before .before .before .next-frame .ensures) _ d, omega (arith, (c .before .before .before .before .before .before .before .before .before .before .loop .inv .1)), (c .before .before .before .before .before .before .before .before .before .before .loop .inv .2))
+    let d = added-noise (c .before .before .before .before .before .before .before .before .before .before .loop .frames) (c .before .before .before .before .before .before .before .before .before .before .loop .coders) (c .before .before .before .before .before .before .before .before .before .before .loop .octets) (c .before .before .before .before .before .before .before .before .before .before .loop .rate) (c .before .before .before .before .before .before .before .before .before .before .loop .wanted) (c .before .before .before .before .before .step2 .given .0 .0) (c .if1 .left) in
+    (loop-over _ _ _ _ _ (c .before .before .before .before .before .before .before .before .before .before .loop .inv .0) (c .before .before .before .before .before .before .before .before .before .loop-test .taken) (λ i. c .before .before .before .before .before .before .before .before .before .before .before .before .shared-slice-known .given i .fits) _ (c .before .before .before .before .before .step2 .given .1) (c .before .before .before .before .before .before .before .next-frame .ensures) _ _ d, omega (arith, (c .before .before .before .before .before .before .before .before .before .before .loop .inv .1)), (c .before .before .before .before .before .before .before .before .before .before .loop .inv .2))
 
 ticks-of-rate-requires : tie.Need-ticks-of-rate-requires Inv-loop μ-loop
 ticks-of-rate-requires c κs = search needs
 
-mul-t16 : tie.Need-mul-t16 Inv-loop μ-loop
-mul-t16 c =
+mul-t18 : tie.Need-mul-t18 Inv-loop μ-loop
+mul-t18 c =
     let i = c .before .before .loop .inv .0 in
     rw (c .ticks-of-rate .ensures) (omega (arith, i .time, i .few, i .short))
 
 returns-2 : tie.Need-returns-2 Inv-loop μ-loop
 returns-2 c =
-    rw (c .ticks-of-rate .ensures) (loop-end _ _ _ (λ i. c .before .before .before .shared-slice-known .given i .fits) (c .before .before .loop .inv .0) (c .before .loop-test .left))
+    rw (c .ticks-of-rate .ensures) (loop-end _ _ _ _ _ (λ i. c .before .before .before .before .shared-slice-known .given i .fits) (c .before .before .loop .inv .0) (c .before .loop-test .left))
 
 pub walk-back-spec : {M : Type 1} → statement M
 walk-back-spec =
@@ -82,6 +85,7 @@ walk-back-spec =
     (tie.spec
     Inv-loop
     μ-loop
+    agreed-rate-requires
     loop-holds
     slice-aggregate-next-frame
     next-frame-requires
@@ -97,5 +101,5 @@ walk-back-spec =
     loop-less-2
     loop-again-2
     ticks-of-rate-requires
-    mul-t16
+    mul-t18
     returns-2)

@@ -1,27 +1,14 @@
--- `writer::check_rows` makes the checks of rows alone in their order: 11, 1, row by row, 1.
-use mathlib.Core.Path.{ap, sym, _∙_}
-use Rattle.writer.specs.Answers.{rowCheckOf}
-use Rattle.writer.proofs.RowSequences.{check-odd, check-many, check-each}
+-- `writer::check_rows` makes the checks of rows alone as where framing is not agreed.
 use Rattle.writer.proofs.RowLoop.{checks}
 use borrow.Author.Needs.{needs}
 use Rattle.writer.proofs.check_rows.Statement.{statement}
 use Rattle.writer.proofs.check_rows.Tie as tie
 
+check-rows-framed-requires : tie.Need-check-rows-framed-requires
+check-rows-framed-requires c κs = search needs
+
 returns : tie.Need-returns
-returns c = checks _ _ (ap rowCheckOf (sym (check-odd _ (c .if1 .taken))))
-
-too-long-requires : tie.Need-too-long-requires
-too-long-requires c κs = search needs
-
-returns-2 : tie.Need-returns-2
-returns-2 c = checks _ _ (c .too-long .ensures ∙ ap rowCheckOf (sym (check-many _ (c .before .before .if1 .left) (c .before .if2 .taken))))
-
-row-by-row-requires : tie.Need-row-by-row-requires
-row-by-row-requires c κs = search needs
-
-returns-3 : tie.Need-returns-3
-returns-3 c = checks _ _ (c .row-by-row .ensures ∙ ap rowCheckOf (sym (check-each _ (c .before .before .if1 .left) (c .before .if2 .left))))
+returns c = checks _ _ (c .check-rows-framed .ensures)
 
 pub check-rows-spec : {M : Type 1} → statement M
-check-rows-spec =
-    tie.close (tie.spec returns too-long-requires returns-2 row-by-row-requires returns-3)
+check-rows-spec = tie.close (tie.spec check-rows-framed-requires returns)

@@ -24,10 +24,10 @@ admit-requires : tie.Need-admit-requires
 admit-requires c κs = search needs
 
 returns : tie.Need-returns
-returns c = λ earlier one. named-refused _ _ _ _ _ (c .before .before .before .row-at .ensures) (c .before .named .given .1)
+returns c = λ fr earlier one. named-refused _ _ _ _ _ _ (c .before .before .before .row-at .ensures) (c .before .named .given .1)
 
 returns-2 : tie.Need-returns-2
-returns-2 c = λ earlier one. c .admit .ensures earlier one ∙ named-passes _ _ _ _ _ (c .before .before .before .before .row-at .ensures) (c .before .before .named2 .given .1)
+returns-2 c = λ fr earlier one. c .admit .ensures fr earlier one ∙ named-passes _ _ _ _ _ _ (c .before .before .before .before .row-at .ensures) (c .before .before .named2 .given .1)
 
 pub next-row-spec : {M : Type 1} → statement M
 next-row-spec =

@@ -7,7 +7,7 @@ use Rattle.writer.proofs.put_frame.Tie as tie
 
 -- the row's numbers
 shape : (c : tie.After-shape-of) → Sizes (c .before .before .before .args .row) (c .shape-of .result)
-shape c = sizes (c .before .before .before .args .row) (c .shape-of .ensures)
+shape c = sizes (c .before .before .before .args .framing) (c .before .before .before .args .row) (c .shape-of .ensures)
 
 shape-of-requires : tie.Need-shape-of-requires
 shape-of-requires c κs = search needs
@@ -31,7 +31,7 @@ shared-slice-read-last : tie.Need-shared-slice-read-last
 shared-slice-read-last c = let s = shape (c .before .before .before .before .before) in omega arith
 
 add-last-2 : tie.Need-add-last-2
-add-last-2 c = record { fits = last-fits _ _ _ (c .before .before .before .before .before .before .before .before .before .args .out .now) _ (c .before .before .before .before .before .before .before .before .before .pre) (c .before .before .before .before .before .before .shape-of .ensures) }
+add-last-2 c = record { fits = last-fits _ _ _ _ (c .before .before .before .before .before .before .before .before .before .args .out .now) _ (c .before .before .before .before .before .before .before .before .before .pre) (c .before .before .before .before .before .before .shape-of .ensures) }
 
 sub-copy : tie.Need-sub-copy
 sub-copy c = search needs
@@ -61,22 +61,22 @@ slice-write-out : tie.Need-slice-write-out
 slice-write-out c =
     let z = c .before .before .before .before .before .before .before .before .before .before .before .before .before .before in
     let is = c .before .before .before .before .before .before .before .before .before .before .before .shape-of .ensures in
-    end-inside _ _ _ _ _ (z .pre) is (body-copied _ (z .args .from) (z .args .row) _ _ (z .pre) is (c .before .before .copy .ensures))
+    end-inside _ _ _ _ _ _ (z .pre) is (body-copied _ _ (z .args .from) (z .args .row) _ _ (z .pre) is (c .before .before .copy .ensures))
 
 put-count-requires : tie.Need-put-count-requires
 put-count-requires c κs =
     let z = c .before .before .before .before .before .before .before .before .before .before .before .before .before .before .before in
     let is = c .before .before .before .before .before .before .before .before .before .before .before .before .shape-of .ensures in
-    count-asked _ _ _ _ _ (z .pre) is (body-copied _ (z .args .from) (z .args .row) _ _ (z .pre) is (c .before .before .before .copy .ensures))
+    count-asked _ _ _ _ _ _ (z .pre) is (body-copied _ _ (z .args .from) (z .args .row) _ _ (z .pre) is (c .before .before .before .copy .ensures))
 
 returns : tie.Need-returns
 returns c =
     let z = c .before .before .before .before .before .before .before .before .before .before .before .before .before .before .before .before .before .before in
     let is = c .before .before .before .before .before .before .before .before .before .before .before .before .before .before .before .shape-of .ensures in
-    frame-put _ _ _ _ _ (z .pre) is (body-copied _ (z .args .from) (z .args .row) _ _ (z .pre) is (c .before .before .before .before .before .before .copy .ensures)) (c .before .before .put-count .ensures)
+    frame-put _ _ _ _ _ _ (z .pre) is (body-copied _ _ (z .args .from) (z .args .row) _ _ (z .pre) is (c .before .before .before .before .before .before .copy .ensures)) (c .before .before .put-count .ensures)
 
 same-length : tie.Need-same-length
-same-length c = length-put _ _ _ _ _ (c .before .before .before .before .before .before .before .before .before .before .before .before .before .before .before .before .before .before .pre) (returns c)
+same-length c = length-put _ _ _ _ _ _ (c .before .before .before .before .before .before .before .before .before .before .before .before .before .before .before .before .before .before .pre) (returns c)
 
 pub put-frame-spec : {M : Type 1} → statement M
 put-frame-spec =

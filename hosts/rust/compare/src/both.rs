@@ -1,10 +1,12 @@
 //! Each function called twice: through the safe wrapper and then through the C ABI, whose answer is
 //! handed back field by field. The two must say the same, and write the same. The wrapper is lent
-//! copies: on the same memory one call could undo what the other should not have changed.
+//! copies: on the same memory one call could undo what the other should not have changed. A function
+//! that takes a session is called without one, too, where framing is not agreed.
 
 use crate::guard::Lent;
 use crate::raw;
 use moult::{Kind, Reason, Refusal, Settings, Shown};
+use second::Session;
 use std::fmt::Debug;
 use std::ptr;
 
@@ -30,9 +32,27 @@ pub struct Entry {
 /// The answer for an index of a journal.
 pub type Found = Answer<Entry>;
 
+/// A session as the wrapper has it.
+fn wrapped(session: Session) -> moult::Session {
+    match session {
+        Session::NotAgreed => moult::Session::NotAgreed,
+        Session::Agreed(rate) => moult::Session::Agreed(rate),
+    }
+}
+
+/// The same as the C interface takes it: no rate is looked at where framing is not agreed, and any
+/// number but 0 says that it is. The lengths lent, which vary, choose among them.
+fn numbers(session: Session, lent: &Lent<u8>) -> raw::Session {
+    let some = lent.shared().len() % 6;
+    match session {
+        Session::NotAgreed => [0, [0, 600, 1200, 2400, 2401, u32::MAX][some]],
+        Session::Agreed(rate) => [[1, 2, 1 << 8, 1 << 16, 1 << 31, u32::MAX][some], rate],
+    }
+}
+
 /// The raw answer; the wrapper keeps its values where accepted, its place where refused.
 #[track_caller]
-fn agreed<T: PartialEq + Debug>(raw: Answer<T>, safe: Result<T, Refusal>) -> Answer<T> {
+fn alike<T: PartialEq + Debug>(raw: Answer<T>, safe: Result<T, Refusal>) -> Answer<T> {
     match &safe {
         Ok(values) => assert_eq!((raw.0, &raw.2), (0, values), "the wrapper's values"),
         Err(refusal) => assert_eq!(
@@ -55,7 +75,7 @@ fn writing<T: Copy + PartialEq + Debug>(
     let safe = safe(copied.part());
     let raw = raw(out.part());
     assert_eq!(copied, *out, "the wrapper's buffer");
-    agreed((raw.number, raw.place, raw.octets), safe)
+    alike((raw.number, raw.place, raw.octets), safe)
 }
 
 pub fn count(payload: &Lent<u8>) -> i32 {
@@ -68,18 +88,52 @@ pub fn count(payload: &Lent<u8>) -> i32 {
     counted
 }
 
-pub fn read(payload: &Lent<u8>, rows: &mut Lent<u16>, bodies: &mut Lent<u8>) -> Answer<Read> {
+pub fn read(
+    session: Session,
+    payload: &Lent<u8>,
+    rows: &mut Lent<u16>,
+    bodies: &mut Lent<u8>,
+) -> Answer<Read> {
     let mut copied = (rows.clone(), bodies.clone());
-    let safe = moult::read(payload.clone().shared(), copied.0.part(), copied.1.part());
+    let in_session = numbers(session, payload);
+    let answer = read_both(
+        (rows, bodies),
+        |rows, bodies| raw::read_session(in_session, payload.shared(), rows, bodies),
+        |rows, bodies| moult::read_in(wrapped(session), payload.clone().shared(), rows, bodies),
+    );
+    if session == Session::NotAgreed {
+        let without = read_both(
+            (&mut copied.0, &mut copied.1),
+            |rows, bodies| raw::read(payload.shared(), rows, bodies),
+            |rows, bodies| moult::read(payload.clone().shared(), rows, bodies),
+        );
+        assert_eq!(without, answer, "without a session");
+        assert_eq!(
+            (&copied.0, &copied.1),
+            (&*rows, &*bodies),
+            "without a session"
+        );
+    }
+    answer
+}
+
+/// Both calls of a function that reads.
+fn read_both(
+    (rows, bodies): (&mut Lent<u16>, &mut Lent<u8>),
+    raw: impl FnOnce(&mut [u16], &mut [u8]) -> raw::Reading,
+    safe: impl FnOnce(&mut [u16], &mut [u8]) -> Result<moult::Reading, Refusal>,
+) -> Answer<Read> {
+    let mut copied = (rows.clone(), bodies.clone());
+    let safe = safe(copied.0.part(), copied.1.part());
     if let Ok(reading) = &safe {
         frames(reading, copied.0.shared(), copied.1.shared());
     }
     let safe = safe.map(|read| (read.rows, read.octets, read.rate.unwrap_or(0), read.ticks.0));
-    let raw = raw::read(payload.shared(), rows.part(), bodies.part());
+    let raw = raw(rows.part(), bodies.part());
     assert_eq!(copied.0, *rows, "the wrapper's rows");
     assert_eq!(copied.1, *bodies, "the wrapper's bodies");
     let values = (raw.rows, raw.octets, raw.rate, raw.ticks);
-    agreed((raw.number, raw.place, values), safe)
+    alike((raw.number, raw.place, values), safe)
 }
 
 /// The wrapper's frames are all rows with all bodies.
@@ -101,24 +155,57 @@ pub fn body_octets(kind: u16, tc: u16) -> usize {
     raw
 }
 
-pub fn write(rows: &Lent<u16>, bodies: &Lent<u8>, out: &mut Lent<u8>) -> Answer<usize> {
-    writing(
+pub fn write(
+    session: Session,
+    rows: &Lent<u16>,
+    bodies: &Lent<u8>,
+    out: &mut Lent<u8>,
+) -> Answer<usize> {
+    let mut copied = out.clone();
+    let in_session = numbers(session, bodies);
+    let lent = || (rows.clone(), bodies.clone());
+    let answer = writing(
         out,
-        |out| raw::write(rows.shared(), bodies.shared(), out),
-        |out| moult::write(rows.clone().shared(), bodies.clone().shared(), out),
-    )
+        |out| raw::write_session(in_session, rows.shared(), bodies.shared(), out),
+        |out| moult::write_in(wrapped(session), lent().0.shared(), lent().1.shared(), out),
+    );
+    if session == Session::NotAgreed {
+        let without = writing(
+            &mut copied,
+            |out| raw::write(rows.shared(), bodies.shared(), out),
+            |out| moult::write(lent().0.shared(), lent().1.shared(), out),
+        );
+        assert_eq!((without, &copied), (answer, &*out), "without a session");
+    }
+    answer
 }
 
-pub fn packet_ticks(payload: &Lent<u8>) -> Answer<usize> {
-    let safe = moult::packet_ticks(payload.clone().shared()).map(|ticks| ticks.0);
-    let raw = raw::packet_ticks(payload.shared());
-    agreed((raw.number, raw.place, raw.ticks), safe)
+pub fn packet_ticks(session: Session, payload: &Lent<u8>) -> Answer<usize> {
+    let both = |raw: raw::Ticks, safe: Result<moult::Ticks, Refusal>| {
+        alike(
+            (raw.number, raw.place, raw.ticks),
+            safe.map(|ticks| ticks.0),
+        )
+    };
+    let copied = payload.clone();
+    let answer = both(
+        raw::packet_ticks_session(numbers(session, payload), payload.shared()),
+        moult::packet_ticks_in(wrapped(session), copied.shared()),
+    );
+    if session == Session::NotAgreed {
+        let without = both(
+            raw::packet_ticks(payload.shared()),
+            moult::packet_ticks(copied.shared()),
+        );
+        assert_eq!(without, answer, "without a session");
+    }
+    answer
 }
 
 pub fn ptime(rate: u32, frames: usize) -> Answer<usize> {
     let raw = raw::ptime(rate, frames);
     let safe = moult::ptime(rate, frames).map(|millis| millis.0);
-    agreed((raw.number, raw.place, raw.millis), safe)
+    alike((raw.number, raw.place, raw.millis), safe)
 }
 
 /// Compares where the wrapper's part stands in its buffer, not what it holds.
@@ -128,23 +215,46 @@ fn part(raw: raw::Part, buffer: &[u8], safe: &[u8]) -> Part {
     (raw.stand_in, raw.start, raw.length)
 }
 
-pub fn augmentation(payload: &Lent<u8>, row: usize) -> Part {
+pub fn augmentation(session: Session, payload: &Lent<u8>, row: usize) -> Part {
     let copied = payload.clone();
-    let safe = moult::augmentation(copied.shared(), row);
-    let raw = raw::augmentation(payload.shared(), row);
-    part(raw, copied.shared(), safe)
+    let safe = moult::augmentation_in(wrapped(session), copied.shared(), row);
+    let raw = raw::augmentation_session(numbers(session, payload), payload.shared(), row);
+    let answer = part(raw, copied.shared(), safe);
+    if session == Session::NotAgreed {
+        let safe = moult::augmentation(copied.shared(), row);
+        let raw = raw::augmentation(payload.shared(), row);
+        let without = part(raw, copied.shared(), safe);
+        assert_eq!(without, answer, "without a session");
+    }
+    answer
 }
 
-pub fn frame_or(payload: &Lent<u8>, row: usize, stand_in: &Lent<u8>) -> Part {
+pub fn frame_or(session: Session, payload: &Lent<u8>, row: usize, stand_in: &Lent<u8>) -> Part {
     let copied = (payload.clone(), stand_in.clone());
-    let shown = moult::frame_or(copied.0.shared(), row, copied.1.shared());
+    let in_session = numbers(session, payload);
+    let raw = raw::frame_or_session(in_session, payload.shared(), row, stand_in.shared());
+    let lent = (copied.0.shared(), copied.1.shared());
+    let answer = shown(
+        raw,
+        lent,
+        moult::frame_or_in(wrapped(session), lent.0, row, lent.1),
+    );
+    if session == Session::NotAgreed {
+        let raw = raw::frame_or(payload.shared(), row, stand_in.shared());
+        let without = shown(raw, lent, moult::frame_or(lent.0, row, lent.1));
+        assert_eq!(without, answer, "without a session");
+    }
+    answer
+}
+
+/// The same of a part of the payload or of the stand-in, which are lent in this order.
+fn shown(raw: raw::Part, lent: (&[u8], &[u8]), shown: Shown) -> Part {
     let (of_stand_in, buffer) = match shown {
-        Shown::Frame(_) => (0, &copied.0),
-        Shown::StandIn(_) => (1, &copied.1),
+        Shown::Frame(_) => (0, lent.0),
+        Shown::StandIn(_) => (1, lent.1),
     };
-    let raw = raw::frame_or(payload.shared(), row, stand_in.shared());
     assert_eq!(raw.stand_in, of_stand_in, "the wrapper's choice");
-    part(raw, buffer.shared(), shown.octets())
+    part(raw, buffer, shown.octets())
 }
 
 pub fn read_settings(text: &Lent<u8>) -> Answer<raw::Settings> {
@@ -158,7 +268,7 @@ pub fn read_settings(text: &Lent<u8>) -> Answer<raw::Settings> {
         values
     });
     let raw = raw::settings_read(text.shared());
-    agreed((raw.number, raw.place, raw.settings), safe)
+    alike((raw.number, raw.place, raw.settings), safe)
 }
 
 /// Settings as the wrapper makes them: of the places up to the last that is not 0.

@@ -3,8 +3,8 @@
 use crate::guard::{Lent, octet};
 use crate::prng::Prng;
 use crate::{LONGER, Met, both, lengthened, make, whole};
-use second::MAX_OCTETS;
 use second::journal::{self, Entry};
+use second::{MAX_OCTETS, Session};
 
 const JOURNALS: usize = 40_000;
 const WRITTEN: usize = 40_000;
@@ -26,7 +26,7 @@ fn some_number(prng: &mut Prng) -> u32 {
 fn some_payload(prng: &mut Prng) -> Vec<u8> {
     let long = prng.pick(&[127, 128, MAX_OCTETS - 1, MAX_OCTETS]);
     match prng.below(16) {
-        0 => make::legal_payload(prng),
+        0 => make::legal_payload(Session::NotAgreed, prng),
         1 => vec![prng.octet(); long],
         2..=6 => vec![],
         _ => (0..prng.below(12)).map(|_| prng.pick(&EDGES)).collect(),

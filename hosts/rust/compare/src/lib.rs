@@ -16,6 +16,7 @@ mod prng;
 mod raw;
 mod rfc8130;
 mod rows;
+mod sessions;
 mod settings;
 mod times;
 mod vectors;

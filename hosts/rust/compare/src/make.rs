@@ -1,9 +1,9 @@
 //! Makes payloads: legal ones of every shape, damaged, clipped, random and over-long ones.
 
 use crate::prng::Prng;
-use second::MAX_OCTETS;
 use second::kinds::Kind;
 use second::writer;
+use second::{MAX_OCTETS, Session};
 
 /// A frame: its row and its body.
 #[derive(Clone, Debug, PartialEq, Eq)]
@@ -18,14 +18,26 @@ pub fn base_octets(kind: u16) -> usize {
     Kind::of(kind).map_or(7, |kind| kind.base)
 }
 
-/// The octets of frames of legal bodies, whether or not they may stand in one payload.
-pub fn octets(frames: &[Frame]) -> Vec<u8> {
-    frames.iter().flat_map(frame_octets).collect()
+/// The session, or another one for a kind that has no place in it.
+fn session_of(session: Session, kind: u16) -> Session {
+    match (session, kind) {
+        (Session::Agreed(2400), 1 | 4..=6) | (Session::Agreed(600), 3 | 4) => session,
+        (Session::Agreed(600), 5 | 6) => Session::Agreed(2400),
+        _ => Session::NotAgreed,
+    }
 }
 
-fn frame_octets(frame: &Frame) -> Vec<u8> {
+/// The octets of frames of legal bodies, whether or not they may stand in one payload.
+pub fn octets(session: Session, frames: &[Frame]) -> Vec<u8> {
+    let octets = |frame| frame_octets(session, frame);
+    frames.iter().flat_map(octets).collect()
+}
+
+fn frame_octets(session: Session, frame: &Frame) -> Vec<u8> {
+    let session = session_of(session, frame.kind);
     let mut octets = vec![0; frame.body.len() + 2];
-    let written = writer::write(&[frame.kind, frame.tc], &frame.body, &mut octets);
+    let row = [frame.kind, frame.tc];
+    let written = writer::write_in(session, &row, &frame.body, &mut octets);
     octets.truncate(written.expect("a frame alone is a legal sequence"));
     octets
 }
@@ -67,38 +79,51 @@ fn tc(prng: &mut Prng) -> u16 {
     prng.within(range.0, range.1) as u16
 }
 
-pub fn frame(kind: u16, tc: u16, prng: &mut Prng) -> Frame {
+pub fn frame(session: Session, kind: u16, tc: u16, prng: &mut Prng) -> Frame {
     let known = Kind::of(kind).expect("a kind that there is");
+    let end = match session_of(session, kind) {
+        Session::Agreed(_) if known.base == 7 => 127,
+        _ => usize::from(known.end),
+    };
     let mut body: Vec<u8> = (0..known.body_octets(tc)).map(|_| octet(prng)).collect();
-    body[known.base - 1] = prng.below(usize::from(known.end) + 1) as u8;
+    body[known.base - 1] = prng.below(end + 1) as u8;
     Frame { kind, tc, body }
 }
 
 /// A TSVCIS frame, with either count where its TC allows both.
-fn tsvcis(prng: &mut Prng) -> Frame {
+fn tsvcis(session: Session, prng: &mut Prng) -> Frame {
     let tc = tc(prng);
     let long = second::body_octets(6, tc) > 0 && prng.one_in(2);
-    frame(if long { 6 } else { 5 }, tc, prng)
+    frame(session, if long { 6 } else { 5 }, tc, prng)
+}
+
+/// A shape of a sequence of the session.
+fn shape(session: Session, prng: &mut Prng) -> usize {
+    match session {
+        Session::Agreed(2400) => prng.within(2, 5),
+        Session::Agreed(600) => 1,
+        _ => prng.below(6),
+    }
 }
 
 /// A coder frame of a sequence's shape: all 1200, all 600, all 2400, all TSVCIS, or (4 and up) 2400
 /// and TSVCIS side by side.
-fn coder_frame(shape: usize, prng: &mut Prng) -> Frame {
+fn coder_frame(session: Session, shape: usize, prng: &mut Prng) -> Frame {
     match shape {
-        0 => frame(2, 0, prng),
-        1 => frame(3, 0, prng),
-        2 => frame(1, 0, prng),
-        3 => tsvcis(prng),
+        0 => frame(session, 2, 0, prng),
+        1 => frame(session, 3, 0, prng),
+        2 => frame(session, 1, 0, prng),
+        3 => tsvcis(session, prng),
         _ => {
             let next = 2 + prng.below(2);
-            coder_frame(next, prng)
+            coder_frame(session, next, prng)
         }
     }
 }
 
 /// A legal sequence: mostly few frames, at times as many as fit.
-pub fn legal(prng: &mut Prng) -> Vec<Frame> {
-    let shape = prng.below(6);
+pub fn legal(session: Session, prng: &mut Prng) -> Vec<Frame> {
+    let shape = shape(session, prng);
     let frames = match prng.below(200) {
         0 => 200,
         1..=8 => prng.below(60),
@@ -108,8 +133,8 @@ pub fn legal(prng: &mut Prng) -> Vec<Frame> {
     let mut sequence = vec![];
     let mut total = 0;
     for _ in 0..frames {
-        let next = coder_frame(shape, prng);
-        let wire = frame_octets(&next).len();
+        let next = coder_frame(session, shape, prng);
+        let wire = frame_octets(session, &next).len();
         if total + wire > MAX_OCTETS {
             break;
         }
@@ -117,13 +142,13 @@ pub fn legal(prng: &mut Prng) -> Vec<Frame> {
         sequence.push(next);
     }
     if prng.one_in(3) && total + 2 <= MAX_OCTETS {
-        sequence.push(frame(4, 0, prng));
+        sequence.push(frame(session, 4, 0, prng));
     }
     sequence
 }
 
-pub fn legal_payload(prng: &mut Prng) -> Vec<u8> {
-    octets(&legal(prng))
+pub fn legal_payload(session: Session, prng: &mut Prng) -> Vec<u8> {
+    octets(session, &legal(session, prng))
 }
 
 fn damage_one(payload: &mut Vec<u8>, prng: &mut Prng) {
@@ -147,14 +172,14 @@ fn damage_one(payload: &mut Vec<u8>, prng: &mut Prng) {
     }
 }
 
-pub fn damaged_once(prng: &mut Prng) -> Vec<u8> {
-    let mut payload = legal_payload(prng);
+pub fn damaged_once(session: Session, prng: &mut Prng) -> Vec<u8> {
+    let mut payload = legal_payload(session, prng);
     damage_one(&mut payload, prng);
     payload
 }
 
-pub fn damaged_often(prng: &mut Prng) -> Vec<u8> {
-    let mut payload = legal_payload(prng);
+pub fn damaged_often(session: Session, prng: &mut Prng) -> Vec<u8> {
+    let mut payload = legal_payload(session, prng);
     for _ in 0..prng.within(2, 8) {
         damage_one(&mut payload, prng);
     }
@@ -162,20 +187,20 @@ pub fn damaged_often(prng: &mut Prng) -> Vec<u8> {
 }
 
 /// Frames of legal bodies in any order of kinds: rates mixed, comfort noise anywhere.
-pub fn mixed(prng: &mut Prng) -> Vec<u8> {
+pub fn mixed(session: Session, prng: &mut Prng) -> Vec<u8> {
     let mut sequence = vec![];
     for _ in 0..prng.within(1, 6) {
         let next = match prng.within(1, 5) {
-            5 => tsvcis(prng),
-            kind => frame(kind as u16, 0, prng),
+            5 => tsvcis(session, prng),
+            kind => frame(session, kind as u16, 0, prng),
         };
         sequence.push(next);
     }
-    octets(&sequence)
+    octets(session, &sequence)
 }
 
-pub fn clipped(prng: &mut Prng) -> Vec<u8> {
-    let payload = legal_payload(prng);
+pub fn clipped(session: Session, prng: &mut Prng) -> Vec<u8> {
+    let payload = legal_payload(session, prng);
     let cut = prng.below(payload.len() + 1);
     match prng.below(3) {
         0 => payload[..cut].to_vec(),
@@ -187,7 +212,7 @@ pub fn clipped(prng: &mut Prng) -> Vec<u8> {
     }
 }
 
-pub fn random(prng: &mut Prng) -> Vec<u8> {
+pub fn random(_: Session, prng: &mut Prng) -> Vec<u8> {
     let length = match prng.below(64) {
         0 => prng.below(MAX_OCTETS + 1),
         1..=8 => prng.below(300),
@@ -203,13 +228,13 @@ pub fn random(prng: &mut Prng) -> Vec<u8> {
 }
 
 /// Lengths on both sides of 1,400, of frames that would be legal but for the length.
-pub fn long(prng: &mut Prng) -> Vec<u8> {
+pub fn long(session: Session, prng: &mut Prng) -> Vec<u8> {
     let mut payload = vec![];
-    let shape = prng.below(6);
+    let shape = shape(session, prng);
     let length = prng.within(MAX_OCTETS - 20, MAX_OCTETS + 30);
     while payload.len() < length {
-        let next = coder_frame(shape, prng);
-        payload.extend(octets(&[next]));
+        let next = coder_frame(session, shape, prng);
+        payload.extend(octets(session, &[next]));
     }
     if prng.one_in(2) {
         payload.truncate(length);

@@ -4,8 +4,8 @@ use crate::both::{self, Answer};
 use crate::guard::{Lent, number, octet};
 use crate::make::{self, base_octets, octets, rows_and_bodies};
 use crate::prng::Prng;
-use crate::{LONGER, Met, lengthened, wanted};
-use second::writer;
+use crate::{LONGER, Met, lengthened, sessions, wanted};
+use second::{Session, writer};
 
 const LEGAL: usize = 100_000;
 const DAMAGED: usize = 300_000;
@@ -15,6 +15,7 @@ const RANDOM: usize = 100_000;
 pub fn compare_to(
     answer: Answer<usize>,
     payload: &[u8],
+    session: Session,
     rows: &[u16],
     bodies: &[u8],
     room: usize,
@@ -23,18 +24,42 @@ pub fn compare_to(
     let lent_rows = Lent::holding(rows, prng, number);
     let lent_bodies = Lent::holding(bodies, prng, octet);
     let mut out = Lent::new(room, prng, octet);
-    let got = both::write(&lent_rows, &lent_bodies, &mut out);
-    assert_eq!(got, answer, "writing {rows:?} {bodies:02x?} to {room}");
+    let got = both::write(session, &lent_rows, &lent_bodies, &mut out);
+    assert_eq!(
+        got, answer,
+        "writing {rows:?} {bodies:02x?} to {room}, {session:?}"
+    );
     lent_rows.unchanged();
     lent_bodies.unchanged();
     out.holds_only(payload);
     answer.0
 }
 
-fn compare(rows: &[u16], bodies: &[u8], room: usize, prng: &mut Prng) -> u32 {
+fn compare_in(session: Session, rows: &[u16], bodies: &[u8], room: usize, prng: &mut Prng) -> u32 {
     let mut out = vec![0; room];
-    let (answer, payload) = wanted(writer::write(rows, bodies, &mut out), out);
-    compare_to(answer, &payload, rows, bodies, room, prng)
+    let written = writer::write_in(session, rows, bodies, &mut out);
+    let (answer, payload) = wanted(written, out);
+    compare_to(answer, &payload, session, rows, bodies, room, prng)
+}
+
+/// In the session that they were made for, whose number it gives, and in another one.
+fn compare_made(
+    session: Session,
+    rows: &[u16],
+    bodies: &[u8],
+    room: usize,
+    prng: &mut Prng,
+) -> u32 {
+    let [session, another] = sessions::with_another(session, prng);
+    compare_in(another, rows, bodies, room, prng);
+    compare_in(session, rows, bodies, room, prng)
+}
+
+/// In every session.
+fn compare(rows: &[u16], bodies: &[u8], room: usize, prng: &mut Prng) {
+    for session in sessions::ALL {
+        compare_in(session, rows, bodies, room, prng);
+    }
 }
 
 fn room(needed: usize, prng: &mut Prng) -> usize {
@@ -85,7 +110,7 @@ fn spoil_an_end(rows: &[u16], bodies: &mut [u8], prng: &mut Prng) {
     }
     let kind = rows.get(2 * wanted).copied().unwrap_or(1);
     if let Some(end) = bodies.get_mut(start + base_octets(kind) - 1) {
-        *end = prng.pick(&[1, 2, 31, 32, 63, 64, 128, 255]);
+        *end = prng.pick(&[1, 2, 31, 32, 63, 64, 127, 128, 255]);
     }
 }
 
@@ -93,10 +118,11 @@ fn spoil_an_end(rows: &[u16], bodies: &mut [u8], prng: &mut Prng) {
 fn legal() {
     let mut prng = Prng::new(21);
     for _ in 0..LEGAL {
-        let frames = make::legal(&mut prng);
+        let session = sessions::legal(&mut prng);
+        let frames = make::legal(session, &mut prng);
         let (rows, bodies) = rows_and_bodies(&frames);
-        let room = room(octets(&frames).len(), &mut prng);
-        compare(&rows, &bodies, room, &mut prng);
+        let room = room(octets(session, &frames).len(), &mut prng);
+        compare_made(session, &rows, &bodies, room, &mut prng);
     }
 }
 
@@ -105,13 +131,14 @@ fn damaged() {
     let mut prng = Prng::new(22);
     let mut met = Met::default();
     for _ in 0..DAMAGED {
-        let frames = make::legal(&mut prng);
+        let session = sessions::legal(&mut prng);
+        let frames = make::legal(session, &mut prng);
         let (mut rows, mut bodies) = rows_and_bodies(&frames);
         for _ in 0..prng.within(1, 3) {
             damage(&mut rows, &mut bodies, &mut prng);
         }
-        let room = room(octets(&frames).len(), &mut prng);
-        met.note(compare(&rows, &bodies, room, &mut prng));
+        let room = room(octets(session, &frames).len(), &mut prng);
+        met.note(compare_made(session, &rows, &bodies, room, &mut prng));
     }
     met.at_least(500, &[0, 3, 6, 8, 10, 11, 12, 13, 14]);
 }
@@ -144,7 +171,8 @@ fn random() {
         let mut bodies = vec![0; sum.min(3000) + off];
         prng.fill(&mut bodies);
         bodies.iter_mut().for_each(|octet| *octet &= 1);
-        met.note(compare(&rows, &bodies, 1400, &mut prng));
+        let session = sessions::legal(&mut prng);
+        met.note(compare_made(session, &rows, &bodies, 1400, &mut prng));
     }
     met.at_least(500, &[0, 1, 6, 8, 11, 12, 13, 14]);
 }
@@ -221,9 +249,10 @@ fn longer() {
     let mut prng = Prng::new(27);
     for by in LONGER {
         for _ in 0..200 {
-            let frames = make::legal(&mut prng);
+            let session = sessions::legal(&mut prng);
+            let frames = make::legal(session, &mut prng);
             let (rows, bodies) = rows_and_bodies(&frames);
-            let needed = octets(&frames).len();
+            let needed = octets(session, &frames).len();
             compare(&lengthened(&rows, by, 0), &bodies, needed, &mut prng);
             compare(&rows, &lengthened(&bodies, by, 0), needed, &mut prng);
             let short = needed.saturating_sub(1) + by;
@@ -237,9 +266,10 @@ fn longer() {
 fn rooms() {
     let mut prng = Prng::new(25);
     for _ in 0..200 {
-        let frames = make::legal(&mut prng);
+        let session = sessions::legal(&mut prng);
+        let frames = make::legal(session, &mut prng);
         let (rows, bodies) = rows_and_bodies(&frames);
-        let needed = octets(&frames).len();
+        let needed = octets(session, &frames).len();
         if needed > 300 {
             continue;
         }

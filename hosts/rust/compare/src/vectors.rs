@@ -6,7 +6,7 @@ use crate::guard::{Lent, number, octet};
 use crate::json::Json;
 use crate::prng::Prng;
 use crate::{journals, payloads, wanted, whole};
-use second::{fields, journal, listing, payload, settings, time, views, writer};
+use second::{Session, fields, journal, listing, payload, settings, time, views, writer};
 use std::fmt::Debug;
 use std::fs;
 use std::path::{Path, PathBuf};
@@ -62,6 +62,15 @@ impl Case {
         [rates[0], rates[1], rates[2], self.number("tcmax")]
     }
 
+    /// The case's session; not agreed where it has none.
+    #[track_caller]
+    fn session(&self) -> Session {
+        match self.values.get("agreed").and_then(Json::number) {
+            None | Some(0) => Session::NotAgreed,
+            Some(_) => Session::Agreed(self.number("agreed_rate")),
+        }
+    }
+
     /// The answer with this value.
     #[track_caller]
     fn answer<T>(&self, value: T) -> Answer<T> {
@@ -113,36 +122,53 @@ fn read(case: &Case, prng: &mut Prng) {
     let lent = Lent::holding(&payload, prng, octet);
     let mut lent_rows = Lent::new(rows_room, prng, number);
     let mut lent_bodies = Lent::new(bodies_room, prng, octet);
-    let got = both::read(&lent, &mut lent_rows, &mut lent_bodies);
+    let session = case.session();
+    let got = both::read(session, &lent, &mut lent_rows, &mut lent_bodies);
     case.is(got, &answer, "the library");
     lent_rows.holds_only(&rows);
     lent_bodies.holds_only(&bodies);
-    let second = payloads::wanted(&payload, rows_room, bodies_room);
+    let second = payloads::wanted(session, &payload, rows_room, bodies_room);
     case.is(second, &(answer, rows, bodies), "the second");
 
-    let count: i32 = case.number("count");
-    case.is(both::count(&lent), &count, "the library");
-    case.is(payload::count(&payload), &count, "the second");
-    let ticks = match count {
-        0.. => (0, 0, case.number("packet_ticks")),
+    // Packet time asks for no room.
+    let ticks = match answer.0 {
+        0 | 9 | 10 => (0, 0, case.number("packet_ticks")),
         _ => case.answer(0),
     };
-    case.is(both::packet_ticks(&lent), &ticks, "the library");
-    case.is(whole(time::packet_ticks(&payload)), &ticks, "the second");
+    case.is(both::packet_ticks(session, &lent), &ticks, "the library");
+    let second = whole(time::packet_ticks_in(session, &payload));
+    case.is(second, &ticks, "the second");
     lent.unchanged();
 }
 
-fn view(case: &Case, _: &mut Prng) {
+fn count(case: &Case, prng: &mut Prng) {
+    let (payload, count) = (case.octets("payload"), case.number("count"));
+    let lent = Lent::holding(&payload, prng, octet);
+    case.is(both::count(&lent), &count, "the library");
+    case.is(payload::count(&payload), &count, "the second");
+    lent.unchanged();
+}
+
+fn view(case: &Case, prng: &mut Prng) {
     let (payload, row) = (case.octets("payload"), case.number("row"));
     let (stand_in, frame) = (case.octets("stand_in"), case.octets("frame"));
-    let augmentation = case.octets("augmentation");
-    let got = moult::augmentation(&payload, row);
+    let (session, augmentation) = (case.session(), case.octets("augmentation"));
+    let lent = Lent::holding(&payload, prng, octet);
+    let lent_stand_in = Lent::holding(&stand_in, prng, octet);
+    let (_, start, length) = both::augmentation(session, &lent, row);
+    let got = &payload[start..][..length];
     case.is(got, &&augmentation[..], "the library");
-    let got = moult::frame_or(&payload, row, &stand_in).octets();
-    case.is(got, &&frame[..], "the library");
-    let second = &payload[views::augmentation(&payload, row)];
+    let (of_stand_in, start, length) = both::frame_or(session, &lent, row, &lent_stand_in);
+    let buffer = if of_stand_in == 0 {
+        &payload
+    } else {
+        &stand_in
+    };
+    case.is(&buffer[start..][..length], &&frame[..], "the library");
+    let second = &payload[views::augmentation_in(session, &payload, row)];
     case.is(second, &&augmentation[..], "the second");
-    let second = views::frame(&payload, row).map_or(&stand_in[..], |part| &payload[part]);
+    let second = views::frame_in(session, &payload, row);
+    let second = second.map_or(&stand_in[..], |part| &payload[part]);
     case.is(second, &&frame[..], "the second");
 }
 
@@ -160,12 +186,13 @@ fn write(case: &Case, prng: &mut Prng) {
     let lent_rows = Lent::holding(&rows, prng, number);
     let lent_bodies = Lent::holding(&bodies, prng, octet);
     let mut out = Lent::new(room, prng, octet);
-    let got = both::write(&lent_rows, &lent_bodies, &mut out);
+    let session = case.session();
+    let got = both::write(session, &lent_rows, &lent_bodies, &mut out);
     case.is(got, &answer, "the library");
     out.holds_only(&payload);
     let mut out = vec![0; room];
-    let second = wanted(writer::write(&rows, &bodies, &mut out), out);
-    case.is(second, &(answer, payload), "the second");
+    let second = writer::write_in(session, &rows, &bodies, &mut out);
+    case.is(wanted(second, out), &(answer, payload), "the second");
 }
 
 fn settings_read(case: &Case, prng: &mut Prng) {
@@ -259,10 +286,14 @@ fn list(case: &Case, _: &mut Prng) {
 
 fn run(case: &Case, prng: &mut Prng) {
     match case.of(&case.values, "case", Json::text) {
-        "read" => read(case, prng),
-        "view" => view(case, prng),
+        "read" => {
+            read(case, prng);
+            count(case, prng);
+        }
+        "session_read" => read(case, prng),
+        "view" | "session_view" => view(case, prng),
         "time" => time(case, prng),
-        "write" => write(case, prng),
+        "write" | "session_write" => write(case, prng),
         "settings_read" => settings_read(case, prng),
         "settings_write" => settings_write(case, prng),
         "unpack" => unpack(case, prng),

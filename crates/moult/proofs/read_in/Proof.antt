@@ -1,8 +1,8 @@
--- `moult::moult_read` answers the struct of what `reader::read` answers.
+-- `moult::read_in` answers the struct of what `reader::read` answers.
 use Rattle.moult.proofs.Structs.{returned}
 use borrow.Author.Needs.{needs}
-use Rattle.moult.proofs.moult_read.Statement.{statement}
-use Rattle.moult.proofs.moult_read.Tie as tie
+use Rattle.moult.proofs.read_in.Statement.{statement}
+use Rattle.moult.proofs.read_in.Tie as tie
 
 returns : tie.Need-returns
 returns c = returned (c .before .before .before .before .before .before .before .before .read .ensures) (c .before .before .answer .given .1)
@@ -10,8 +10,8 @@ returns c = returned (c .before .before .before .before .before .before .before 
 returns-2 : tie.Need-returns-2
 returns-2 c = returned (c .before .before .before .before .before .before .before .before .read .ensures) (c .before .before .answer2 .given .1)
 
-pub moult-read-spec : {M : Type 1} → statement M
-moult-read-spec =
+pub read-in-spec : {M : Type 1} → statement M
+read-in-spec =
     tie.close
     (tie.spec
     (λ c κs. search needs)

@@ -1,8 +1,8 @@
--- `moult::moult_write` answers the struct of what `writer::write` answers.
+-- `moult::write_in` answers the struct of what `writer::write` answers.
 use Rattle.moult.proofs.Structs.{returned-by}
 use borrow.Author.Needs.{needs}
-use Rattle.moult.proofs.moult_write.Statement.{statement}
-use Rattle.moult.proofs.moult_write.Tie as tie
+use Rattle.moult.proofs.write_in.Statement.{statement}
+use Rattle.moult.proofs.write_in.Tie as tie
 
 returns : tie.Need-returns
 returns c = returned-by (c .written .ensures) (c .before .before .before .before .before .before .write .ensures) (c .before .before .answer .given .1)
@@ -10,8 +10,8 @@ returns c = returned-by (c .written .ensures) (c .before .before .before .before
 returns-2 : tie.Need-returns-2
 returns-2 c = returned-by (c .not-written .ensures) (c .before .before .before .before .before .before .write .ensures) (c .before .before .answer2 .given .1)
 
-pub moult-write-spec : {M : Type 1} → statement M
-moult-write-spec =
+pub write-in-spec : {M : Type 1} → statement M
+write-in-spec =
     tie.close
     (tie.spec
     (λ c κs. search needs)

@@ -1,8 +1,8 @@
--- `moult::moult_packet_ticks` answers the struct of what `clock::packet_ticks` answers.
+-- `moult::ticks_in` answers the struct of what `clock::packet_ticks` answers.
 use Rattle.moult.proofs.Structs.{returned}
 use borrow.Author.Needs.{needs}
-use Rattle.moult.proofs.moult_packet_ticks.Statement.{statement}
-use Rattle.moult.proofs.moult_packet_ticks.Tie as tie
+use Rattle.moult.proofs.ticks_in.Statement.{statement}
+use Rattle.moult.proofs.ticks_in.Tie as tie
 
 returns : tie.Need-returns
 returns c = returned (c .before .before .before .packet-ticks .ensures) (c .before .answer .given .1)
@@ -10,8 +10,8 @@ returns c = returned (c .before .before .before .packet-ticks .ensures) (c .befo
 returns-2 : tie.Need-returns-2
 returns-2 c = returned (c .before .before .before .before .packet-ticks .ensures) (c .before .before .answer2 .given .1)
 
-pub moult-packet-ticks-spec : {M : Type 1} → statement M
-moult-packet-ticks-spec =
+pub ticks-in-spec : {M : Type 1} → statement M
+ticks-in-spec =
     tie.close
     (tie.spec
     (λ c κs. search needs)
