@@ -7,7 +7,7 @@
 set -euo pipefail
 
 # In the order of `Calls`, in rust/src/bin/bench/calls.rs.
-functions="count read write packet_ticks ptime augmentation frame_or settings_read settings_write unpack pack journal_entry_at journal_write_entry"
+functions="count read write packet_ticks ptime augmentation frame_or settings_read settings_write unpack pack journal_entry_at journal_write_entry body_octets record_empty record_push record_start"
 places="0 1 2 3 4 5 6 7"
 
 out=$(realpath "$1")

@@ -3,8 +3,8 @@
    payload or of rows, and the highest bit on which side of the lent inputs memory ends: in front (1)
    or behind (0). The second octet's halves choose the
    rooms lent, low half first: 2 is just enough, 1 is one less. The rest is a payload, rows and
-   bodies, a setting text, settings, fields, a body, a rate and a number of frames, or a journal or
-   what an entry of one is written of. */
+   bodies, a setting text, settings, fields, a body, a rate and a number of frames, a journal or
+   what an entry of one is written of, or operations on a packet record or such a record itself. */
 #include "compare.h"
 
 enum { MOST = COMPARE_OCTETS / 2 };
@@ -120,6 +120,48 @@ static void try_entry_write(rest data, int more)
     compare_entry_write(ticks, source, data.at, data.n, more);
 }
 
+/* An octet, where it is wide as high octet too. */
+static uint16_t take_wide(rest *from, int is_wide)
+{
+    return (uint16_t)(take(from) * (is_wide ? 0x0101 : 1));
+}
+
+/* What it does, the row, kind and TC, an octet each. Most take a row at the end. */
+static compare_operation take_operation(rest *from, int is_wide)
+{
+    static const int what[8] = {COMPARE_PUSH, COMPARE_POP,  COMPARE_REPLACE, COMPARE_PUSH,
+                                COMPARE_PUSH, COMPARE_PUSH, COMPARE_REPLACE, COMPARE_PUSH};
+    compare_operation o;
+    o.what = what[take(from) % 8];
+    o.row = take_wide(from, is_wide);
+    o.kind = take_wide(from, is_wide);
+    o.tc = take_wide(from, is_wide);
+    return o;
+}
+
+/* An index to ask for; operations are the rest. Each fifteenth is wide, from the one that `wide`
+   names, counted from 1. */
+static void try_record(rest data, unsigned wide)
+{
+    static compare_operation run[MOST / 4 + 1];
+    size_t n = 0, row = take(&data);
+    while (data.n > 0) {
+        run[n] = take_operation(&data, wide > 0 && n % 15 == wide - 1);
+        n++;
+    }
+    compare_rows(compare_record(run, n, row));
+}
+
+/* An operation's numbers; the record's octets are the rest, and 0 behind them. */
+static void try_made_up_record(rest data, unsigned wide)
+{
+    compare_operation values = take_operation(&data, wide > 0);
+    moult_record record;
+    for (size_t i = 0; i < sizeof record; i++)
+        ((uint8_t *)&record)[i] = take(&data);
+    compare_made_up(record, values);
+}
+
 int LLVMFuzzerTestOneInput(const uint8_t *data, size_t n)
 {
     if (n < 2 || n > MOST)
@@ -153,6 +195,12 @@ int LLVMFuzzerTestOneInput(const uint8_t *data, size_t n)
         break;
     case 9:
         try_entry_write(behind, low_more);
+        break;
+    case 10:
+        try_record(behind, high);
+        break;
+    case 11:
+        try_made_up_record(behind, high);
         break;
     default:
         compare_payload(in, behind.at, behind.n, low_more, high_more);

@@ -53,18 +53,18 @@ target/bin/list: $(call files_of,list)
 	@rt check list >&2
 	@touch $@
 
-# It exports moult.h's functions and needs no other library.
+# It exports moult.h's functions and needs the C library alone, for memcpy and memset.
 $(MOULT_SO): $(LINKED) packaging/moult.map
 	gcc -shared -nostdlib -Wl,-soname,$(@F) -Wl,--version-script=packaging/moult.map -Wl,-z,defs -Wl,-z,now \
-		-Wl,--whole-archive $(MOULT_LIB) -Wl,--no-whole-archive -o $@
+		-Wl,--whole-archive $(MOULT_LIB) -Wl,--no-whole-archive -lc -o $@
 
 # ---- tests
 
 host-test: host-c-test host-rust-test vectors-test listing-test make-test install-test dist-test
 
-SECOND_C := second/c/payload.c second/c/settings.c second/c/fields.c second/c/journal.c
+SECOND_C := second/c/payload.c second/c/settings.c second/c/fields.c second/c/journal.c second/c/record.c
 TEST_HEADERS := include/moult.h second/c/second.h tests/c/check.h tests/c/compare.h
-VECTORS := $(patsubst %,tests/vectors/%.jsonl,payload writer views session time settings fields journal)
+VECTORS := $(patsubst %,tests/vectors/%.jsonl,payload writer views session time settings fields journal record)
 
 host-c-test: $(addprefix $(HOST_OUT)/,abi_c abi_cxx abi_shared compare vectors vectors_second list)
 	$(HOST_OUT)/abi_c

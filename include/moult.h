@@ -1,7 +1,7 @@
 /* moult: reads and writes RTP payloads of MELPe and TSVCIS speech frames (RFC 8817), and tells
-   their time, setting text (fmtp) and 600 bps fields (RFC 8130); keeps payloads in a journal. Link
-   with -lmoult, or with libmoult.a; it needs no other library. moult(3) has the whole story; this
-   is a first host:
+   their time, setting text (fmtp) and 600 bps fields (RFC 8130); keeps payloads in a journal, and a
+   packet's frame starts in a record. Link with -lmoult, or with libmoult.a; it needs no library but
+   C's. moult(3) has the whole story; this is a first host:
 
        uint16_t rows[MOULT_MAX_NUMBERS];
        uint8_t bodies[MOULT_MAX_OCTETS];
@@ -28,8 +28,8 @@
 
    An answer with number 0 (and place 0) is accepted: the first places of the lent buffers are
    filled, as many as the answer reports, and everything beyond them is unchanged. Any other number
-   is a refusal: its place says where or how much, all other values are 0, and no lent memory has
-   changed.
+   is a refusal: its place says where or how much, all other values are 0 (a record is as it was),
+   and no lent memory has changed.
 
    Later versions may add functions, kinds and refusal numbers. A host takes a number that it does
    not know for a refusal like any other, and steps over the body of a kind that it does not know
@@ -85,17 +85,18 @@ enum {
                                           from their start; fields: index in the body */
     MOULT_LONG_COUNT_ZERO = 4,         /* place: unread */
     MOULT_LONG_COUNT_SHORT_RANGE = 5,  /* no longer given: a long count of 15 to 77 makes kind 6 */
-    MOULT_COMFORT_NOISE_NOT_LAST = 6,  /* place: unread; writer: row, from 0 */
+    MOULT_COMFORT_NOISE_NOT_LAST = 6,  /* place: unread; writer and record: row, from 0 */
     MOULT_AUGMENTATION_NOT_2400 = 7,   /* place: unread */
-    MOULT_RATES_MIXED = 8,             /* place: unread (the later frames set the rate); writer:
-                                          row, from 0 (the earlier rows do); in a session with
-                                          framing the agreed rate is set before both */
+    MOULT_RATES_MIXED = 8,             /* place: unread (the later frames set the rate); writer and
+                                          record: row, from 0 (the earlier rows do); in a session
+                                          with framing the agreed rate is set before both */
     MOULT_NUMBERS_TOO_SHORT = 9,       /* number list; place: rows needed (two numbers each), or
                                           fields needed */
     MOULT_OCTETS_TOO_SHORT = 10,       /* octet buffer; place: octets needed */
     MOULT_ODD_ROWS = 11,               /* place: length of the row list */
-    MOULT_UNKNOWN = 12,                /* kind, rate or number of frames; place: writer: row, from
-                                          0; else, and for an agreed rate in every call, 0 */
+    MOULT_UNKNOWN = 12,                /* kind, rate, row or number of frames; place: of a kind, in
+                                          writer and record: row, from 0; else, also for an agreed
+                                          rate and for a row that a record does not have, 0 */
     MOULT_WRONG_TC = 13,               /* place: row, from 0 */
     MOULT_WRONG_LENGTH = 14,           /* place: length needed */
     MOULT_WRONG_SETTINGS = 15,         /* text or settings; place: 0 */
@@ -175,6 +176,42 @@ typedef struct {
     size_t start;
     size_t next;
 } moult_entry;
+
+/* A packet record: the rows of a packet, where each row's frame starts on the wire, and octets and
+   ticks of them all. Unused places are 0. It is passed by value and may be copied, kept and compared
+   member by member; a host changes it by moult_record_push, _pop and _replace only. */
+typedef struct {
+    uint16_t numbers[MOULT_MAX_NUMBERS]; /* kind and TC of each row */
+    uint16_t starts[MOULT_MAX_FRAMES];   /* where each row's frame starts on the wire */
+    size_t rows;
+    size_t octets; /* of all frames on the wire */
+    uint32_t ticks;
+} moult_record;
+
+/* The record of no rows, to initialise one with. */
+#define MOULT_RECORD_EMPTY {{0}, {0}, 0, 0, 0}
+
+/* What came of an operation on a record: where refused, the record is as it was. */
+typedef struct {
+    uint32_t number;
+    size_t place;
+    moult_record record;
+} moult_record_change;
+
+/* A row of a record. */
+typedef struct {
+    uint32_t number;
+    uint16_t kind;
+    uint16_t tc;
+    size_t place;
+} moult_row;
+
+/* Where a row's frame starts on the wire, in octets from the payload's start. */
+typedef struct {
+    uint32_t number;
+    size_t place;
+    size_t start;
+} moult_start;
 
 /* The version of the library that is linked, as MOULT_VERSION. */
 uint32_t moult_version(void);
@@ -289,6 +326,39 @@ moult_entry moult_journal_entry_at(const uint8_t *journal, size_t n, size_t at);
 moult_writing moult_journal_write_entry(uint64_t ticks, uint64_t source, const uint8_t *payload,
                                         size_t payload_n, uint8_t *out, size_t out_n);
 
+/* Packet records, for a host that asks for frame starts again and again: they are kept, not added up.
+
+       moult_record record = MOULT_RECORD_EMPTY;
+       moult_record_change c = moult_record_push(record, MOULT_KIND_2400, 0);
+       if (c.number == MOULT_ACCEPTED)
+           record = c.record;
+       size_t start = moult_record_start(record, 0).start;
+
+   push takes a row at the end, pop drops the last row, replace puts another in place of a row (from
+   0). Behind each, the record is that of the rows that result.
+   They refuse 12 with place 0 where the row to drop or to replace is missing; then what moult_write
+   refuses of rows alone, for all rows that would result: 1 with place 1400 for more than 200 rows;
+   row by row, with the row as place, 12, 13, 6, 8; 1 with place 1400 for more than 1,400 octets. So
+   the place may be another row than the one handed in.
+   Records work as not agreed (sessions, above). A record that none of these functions made is taken
+   without a fault; of it is promised only that a refusal changes nothing. */
+moult_record moult_record_empty(void);
+moult_record_change moult_record_push(moult_record record, uint16_t kind, uint16_t tc);
+moult_record_change moult_record_pop(moult_record record);
+moult_record_change moult_record_replace(moult_record record, size_t row, uint16_t kind,
+                                         uint16_t tc);
+
+/* How many rows a record has, the octets of their frames on the wire, and the ticks of 1/8000 second
+   that they last. */
+size_t moult_record_rows(moult_record record);
+size_t moult_record_octets(moult_record record);
+uint32_t moult_record_ticks(moult_record record);
+
+/* A row (from 0) of a record, and where its frame starts on the wire. Refuse 12 with place 0 where
+   the row is missing. */
+moult_row moult_record_row(moult_record record, size_t row);
+moult_start moult_record_start(moult_record record, size_t row);
+
 /* A refusal number in English, for a log. Of a moult_count below 0 it is the number with the sign
    taken away. */
 static inline const char *moult_refusal_text(uint32_t number)
@@ -319,7 +389,7 @@ static inline const char *moult_refusal_text(uint32_t number)
     case MOULT_ODD_ROWS:
         return "odd row list";
     case MOULT_UNKNOWN:
-        return "unknown kind, rate or number of frames";
+        return "unknown kind, rate, row or number of frames";
     case MOULT_WRONG_TC:
         return "TC wrong for the kind";
     case MOULT_WRONG_LENGTH:

@@ -407,6 +407,51 @@ static inline uint32_t row_refusal(const uint16_t *rows, size_t frames, size_t r
     return rate && rate != kinds[kind].rate ? MOULT_RATES_MIXED : 0;
 }
 
+static inline size_t wire_octets(uint16_t kind, size_t tc)
+{
+    return body_octets(kind, tc) + count_octets(kind, tc);
+}
+
+static inline second_row_totals rows_refused(uint32_t number, size_t place)
+{
+    second_row_totals t = {number, place, 0, 0, 0};
+    return t;
+}
+
+/* All checks of rows alone. */
+ONE_FOR_ALL_SESSIONS second_row_totals check_rows(uint32_t agreed, const uint16_t *rows,
+                                                  size_t frames)
+{
+    second_row_totals t = {0, 0, 0, 0, 0};
+    uint32_t rate = agreed;
+    if (frames > MOULT_MAX_FRAMES)
+        return rows_refused(MOULT_TOO_LONG, MOULT_MAX_OCTETS);
+    for (size_t i = 0; i < frames; i++) {
+        uint32_t number = row_refusal(rows, frames, i, rate);
+        if (number)
+            return rows_refused(number, i);
+        uint16_t kind = rows[2 * i], tc = rows[2 * i + 1];
+        if (kind != MOULT_KIND_COMFORT_NOISE)
+            rate = kinds[kind].rate;
+        t.bodies += body_octets(kind, tc);
+        t.wire += wire_octets(kind, tc);
+        t.ticks += ticks_of(kinds[kind].rate);
+    }
+    if (t.wire > MOULT_MAX_OCTETS)
+        return rows_refused(MOULT_TOO_LONG, MOULT_MAX_OCTETS);
+    return t;
+}
+
+second_row_totals second_check_rows(const uint16_t *rows, size_t frames)
+{
+    return check_rows(0, rows, frames);
+}
+
+size_t second_wire_octets(uint16_t kind, uint16_t tc)
+{
+    return wire_octets(kind, tc);
+}
+
 static inline void put_frame(uint32_t agreed, uint16_t kind, uint16_t tc, const uint8_t *body,
                              uint8_t *out)
 {
@@ -432,26 +477,14 @@ ONE_FOR_ALL_SESSIONS moult_writing write_in(uint32_t agreed, const uint16_t *row
                                             const uint8_t *bodies, size_t bodies_n, uint8_t *out,
                                             size_t out_n)
 {
-    size_t frames = rows_n / 2, wire = 0, sum = 0;
-    uint32_t rate = agreed;
+    size_t frames = rows_n / 2;
     if (rows_n % 2)
         return writing(MOULT_ODD_ROWS, rows_n, 0);
-    if (frames > MOULT_MAX_FRAMES)
-        return writing(MOULT_TOO_LONG, MOULT_MAX_OCTETS, 0);
-    for (size_t i = 0; i < frames; i++) {
-        uint32_t number = row_refusal(rows, frames, i, rate);
-        if (number)
-            return writing(number, i, 0);
-        uint16_t kind = rows[2 * i], tc = rows[2 * i + 1];
-        if (kind != MOULT_KIND_COMFORT_NOISE)
-            rate = kinds[kind].rate;
-        sum += body_octets(kind, tc);
-        wire += body_octets(kind, tc) + count_octets(kind, tc);
-    }
-    if (wire > MOULT_MAX_OCTETS)
-        return writing(MOULT_TOO_LONG, MOULT_MAX_OCTETS, 0);
-    if (bodies_n != sum)
-        return writing(MOULT_WRONG_LENGTH, sum, 0);
+    second_row_totals total = check_rows(agreed, rows, frames);
+    if (total.number)
+        return writing(total.number, total.place, 0);
+    if (bodies_n != total.bodies)
+        return writing(MOULT_WRONG_LENGTH, total.bodies, 0);
     size_t at = 0;
     for (size_t i = 0; i < frames; i++) {
         kind_row k = kind_in(agreed, rows[2 * i]);
@@ -460,16 +493,16 @@ ONE_FOR_ALL_SESSIONS moult_writing write_in(uint32_t agreed, const uint16_t *row
             return writing(MOULT_RESERVED_BITS, end, 0);
         at = end + 1 + rows[2 * i + 1];
     }
-    if (out_n < wire)
-        return writing(MOULT_OCTETS_TOO_SHORT, wire, 0);
+    if (out_n < total.wire)
+        return writing(MOULT_OCTETS_TOO_SHORT, total.wire, 0);
     size_t from = 0, to = 0;
     for (size_t i = 0; i < frames; i++) {
         uint16_t kind = rows[2 * i], tc = rows[2 * i + 1];
         put_frame(agreed, kind, tc, bodies + from, out + to);
         from += body_octets(kind, tc);
-        to += body_octets(kind, tc) + count_octets(kind, tc);
+        to += wire_octets(kind, tc);
     }
-    return writing(0, 0, wire);
+    return writing(0, 0, total.wire);
 }
 
 moult_writing second_write(const uint16_t *rows, size_t rows_n, const uint8_t *bodies,

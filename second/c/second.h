@@ -17,6 +17,20 @@ typedef struct {
     size_t ticks;
 } second_walked;
 
+/* What a row list comes to: octets of the bodies and on the wire, and ticks; or its refusal, with all
+   others 0. */
+typedef struct {
+    uint32_t number;
+    size_t place;
+    size_t bodies;
+    size_t wire;
+    size_t ticks;
+} second_row_totals;
+
+second_row_totals second_check_rows(const uint16_t *rows, size_t frames);
+/* The octets on the wire of a frame whose row has passed. */
+size_t second_wire_octets(uint16_t kind, uint16_t tc);
+
 second_walked second_walk(const uint8_t *payload, size_t n);
 second_walked second_walk_session(uint32_t agreed, uint32_t rate, const uint8_t *payload, size_t n);
 
@@ -52,5 +66,15 @@ moult_writing second_pack(uint8_t mode, const uint16_t *fields, size_t fields_n,
 moult_entry second_journal_entry_at(const uint8_t *journal, size_t n, size_t at);
 moult_writing second_journal_write_entry(uint64_t ticks, uint64_t source, const uint8_t *payload,
                                          size_t payload_n, uint8_t *out, size_t out_n);
+moult_record second_record_empty(void);
+moult_record_change second_record_push(moult_record record, uint16_t kind, uint16_t tc);
+moult_record_change second_record_pop(moult_record record);
+moult_record_change second_record_replace(moult_record record, size_t row, uint16_t kind,
+                                          uint16_t tc);
+size_t second_record_rows(moult_record record);
+size_t second_record_octets(moult_record record);
+uint32_t second_record_ticks(moult_record record);
+moult_row second_record_row(moult_record record, size_t row);
+moult_start second_record_start(moult_record record, size_t row);
 
 #endif

@@ -28,6 +28,20 @@ STATIC_CHECK(offsetof(moult_entry, entries) == 4);
 STATIC_CHECK(offsetof(moult_entry, place) == sizeof(size_t));
 STATIC_CHECK(offsetof(moult_entry, ticks) == 2 * sizeof(size_t));
 STATIC_CHECK(offsetof(moult_entry, next) == 5 * sizeof(size_t));
+STATIC_CHECK(sizeof(moult_record) == 1200 + 3 * sizeof(size_t));
+STATIC_CHECK(offsetof(moult_record, starts) == 800);
+STATIC_CHECK(offsetof(moult_record, rows) == 1200);
+STATIC_CHECK(offsetof(moult_record, octets) == 1200 + sizeof(size_t));
+STATIC_CHECK(offsetof(moult_record, ticks) == 1200 + 2 * sizeof(size_t));
+STATIC_CHECK(sizeof(moult_record_change) == sizeof(moult_record) + 2 * sizeof(size_t));
+STATIC_CHECK(offsetof(moult_record_change, place) == sizeof(size_t));
+STATIC_CHECK(offsetof(moult_record_change, record) == 2 * sizeof(size_t));
+STATIC_CHECK(sizeof(moult_row) == 2 * sizeof(size_t));
+STATIC_CHECK(offsetof(moult_row, kind) == 4);
+STATIC_CHECK(offsetof(moult_row, tc) == 6);
+STATIC_CHECK(offsetof(moult_row, place) == sizeof(size_t));
+STATIC_CHECK(sizeof(moult_start) == 3 * sizeof(size_t));
+STATIC_CHECK(offsetof(moult_start, start) == 2 * sizeof(size_t));
 STATIC_CHECK(MOULT_MAX_NUMBERS == 2 * MOULT_MAX_FRAMES);
 
 #define GUARD 0xA5
@@ -424,6 +438,89 @@ static void journal(void)
     CHECK(w.number == 1 && w.place == 1400 && w.octets == 0 && out[0] == 0xFF);
 }
 
+static int same_record(moult_record a, moult_record b)
+{
+    return memcmp(a.numbers, b.numbers, sizeof a.numbers) == 0 &&
+           memcmp(a.starts, b.starts, sizeof a.starts) == 0 && a.rows == b.rows &&
+           a.octets == b.octets && a.ticks == b.ticks;
+}
+
+static moult_record pushed(moult_record record, uint16_t kind, uint16_t tc)
+{
+    moult_record_change c = moult_record_push(record, kind, tc);
+    CHECK(c.number == 0 && c.place == 0 && c.record.rows == record.rows + 1);
+    return c.record;
+}
+
+/* A change that is refused so, with the record as it was. */
+static void unchanged_by(moult_record_change c, moult_record before, uint32_t number, size_t place)
+{
+    CHECK(c.number == number && c.place == place && same_record(c.record, before));
+}
+
+static void has_row(moult_record record, size_t row, unsigned kind, unsigned tc, size_t start)
+{
+    moult_row r = moult_record_row(record, row);
+    CHECK(r.number == 0 && r.place == 0 && r.kind == kind && r.tc == tc);
+    moult_start s = moult_record_start(record, row);
+    CHECK(s.number == 0 && s.place == 0 && s.start == start);
+}
+
+static void has_no_row(moult_record record, size_t row)
+{
+    moult_row r = moult_record_row(record, row);
+    CHECK(r.number == 12 && r.place == 0 && r.kind == 0 && r.tc == 0);
+    moult_start s = moult_record_start(record, row);
+    CHECK(s.number == 12 && s.place == 0 && s.start == 0);
+}
+
+static void has_totals(moult_record record, size_t row_count, size_t octet_count, uint32_t ticks)
+{
+    CHECK(moult_record_rows(record) == row_count && record.rows == row_count);
+    CHECK(moult_record_octets(record) == octet_count && record.octets == octet_count);
+    CHECK(moult_record_ticks(record) == ticks && record.ticks == ticks);
+    has_no_row(record, row_count);
+    has_no_row(record, SIZE_MAX);
+}
+
+static void records(void)
+{
+    moult_record empty = MOULT_RECORD_EMPTY;
+    CHECK(same_record(moult_record_empty(), empty));
+    has_totals(empty, 0, 0, 0);
+    unchanged_by(moult_record_pop(empty), empty, 12, 0);
+    unchanged_by(moult_record_replace(empty, 0, 1, 0), empty, 12, 0);
+    unchanged_by(moult_record_push(empty, 9, 0), empty, 12, 0);
+
+    moult_record one = pushed(empty, 1, 0);
+    moult_record three = pushed(pushed(one, 5, 15), 6, 15);
+    has_totals(three, 3, 54, 540);
+    has_row(three, 0, 1, 0, 0);
+    has_row(three, 1, 5, 15, 7);
+    has_row(three, 2, 6, 15, 30);
+    unchanged_by(moult_record_replace(three, 0, 3, 0), three, 8, 1);
+    unchanged_by(moult_record_replace(three, 3, 1, 0), three, 12, 0);
+    unchanged_by(moult_record_replace(three, 2, 6, 78), three, 13, 2);
+    moult_record_change c = moult_record_replace(three, 1, 1, 0);
+    CHECK(c.number == 0 && c.place == 0);
+    has_totals(c.record, 3, 38, 540);
+    has_row(c.record, 2, 6, 15, 14);
+
+    moult_record noise = pushed(three, 4, 0);
+    has_totals(noise, 4, 56, 540);
+    unchanged_by(moult_record_push(noise, 1, 0), noise, 6, 3);
+    c = moult_record_pop(noise);
+    CHECK(c.number == 0 && c.place == 0 && same_record(c.record, three));
+
+    moult_record most = empty;
+    for (size_t i = 0; i < MOULT_MAX_FRAMES; i++)
+        most = pushed(most, 3, 0);
+    has_totals(most, 200, 1400, 144000);
+    has_row(most, 199, 3, 0, 1393);
+    unchanged_by(moult_record_push(most, 9, 9), most, 1, 1400);
+    unchanged_by(moult_record_replace(most, 0, 1, 0), most, 8, 1);
+}
+
 int main(void)
 {
     CHECK(moult_version() == MOULT_VERSION);
@@ -438,6 +535,7 @@ int main(void)
     settings();
     fields();
     journal();
+    records();
     printf("%lu checks held\n", checks);
     return 0;
 }

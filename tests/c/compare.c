@@ -324,3 +324,93 @@ void compare_entry_write(uint64_t ticks, uint64_t source, const uint8_t *data, s
         MUST(same_entry(moult_journal_entry_at(octets + GUARD, needed, 0), read));
     }
 }
+
+/* Member by member: what stands behind the last one is nobody's. */
+static int same_record(const moult_record *a, const moult_record *b)
+{
+    return memcmp(a->numbers, b->numbers, sizeof a->numbers) == 0 &&
+           memcmp(a->starts, b->starts, sizeof a->starts) == 0 && a->rows == b->rows &&
+           a->octets == b->octets && a->ticks == b->ticks;
+}
+
+static moult_record_change operate(moult_record record, compare_operation o)
+{
+    switch (o.what) {
+    case COMPARE_PUSH:
+        return moult_record_push(record, o.kind, o.tc);
+    case COMPARE_POP:
+        return moult_record_pop(record);
+    default:
+        return moult_record_replace(record, o.row, o.kind, o.tc);
+    }
+}
+
+static moult_record_change operate_second(moult_record record, compare_operation o)
+{
+    switch (o.what) {
+    case COMPARE_PUSH:
+        return second_record_push(record, o.kind, o.tc);
+    case COMPARE_POP:
+        return second_record_pop(record);
+    default:
+        return second_record_replace(record, o.row, o.kind, o.tc);
+    }
+}
+
+/* What a record says of a row, there or not. */
+static void compare_row(moult_record record, size_t row)
+{
+    moult_row got = moult_record_row(record, row), wanted = second_record_row(record, row);
+    MUST(got.number == wanted.number && got.place == wanted.place);
+    MUST(got.kind == wanted.kind && got.tc == wanted.tc);
+    moult_start start = moult_record_start(record, row);
+    moult_start wanted_start = second_record_start(record, row);
+    MUST(start.number == wanted_start.number && start.place == wanted_start.place);
+    MUST(start.start == wanted_start.start);
+}
+
+void compare_rows(moult_record record)
+{
+    for (size_t row = 0; row <= record.rows; row++)
+        compare_row(record, row);
+}
+
+moult_record compare_record(const compare_operation *run, size_t n, size_t row)
+{
+    moult_record record = moult_record_empty(), empty = MOULT_RECORD_EMPTY;
+    MUST(same_record(&record, &empty));
+    for (size_t i = 0; i < n; i++) {
+        moult_record_change got = operate(record, run[i]);
+        moult_record_change wanted = operate_second(record, run[i]);
+        MUST(got.number == wanted.number && got.place == wanted.place);
+        MUST(same_record(&got.record, &wanted.record));
+        MUST(got.number == 0 || same_record(&got.record, &record));
+        record = got.record;
+        MUST(moult_record_rows(record) == record.rows);
+        MUST(moult_record_octets(record) == record.octets);
+        MUST(moult_record_ticks(record) == record.ticks);
+        compare_row(record, 0);
+        compare_row(record, record.rows - 1);
+        compare_row(record, record.rows);
+        compare_row(record, SIZE_MAX);
+        compare_row(record, row);
+    }
+    return record;
+}
+
+void compare_made_up(moult_record record, compare_operation values)
+{
+    moult_record before = record;
+    for (values.what = COMPARE_PUSH; values.what <= COMPARE_REPLACE; values.what++) {
+        moult_record_change got = operate(record, values);
+        MUST(same_record(&record, &before));
+        MUST(got.number == 0 || same_record(&got.record, &before));
+        MUST(got.number != 0 || got.place == 0);
+    }
+    moult_record_rows(record);
+    moult_record_octets(record);
+    moult_record_ticks(record);
+    moult_record_row(record, values.row);
+    moult_record_start(record, values.row);
+    MUST(same_record(&record, &before));
+}

@@ -34,4 +34,23 @@ void compare_journal(const uint8_t *journal, size_t n, size_t at);
 void compare_entry_write(uint64_t ticks, uint64_t source, const uint8_t *payload, size_t n,
                          int more);
 
+/* An operation on a packet record; `row` is looked at where it replaces. */
+enum { COMPARE_PUSH, COMPARE_POP, COMPARE_REPLACE };
+typedef struct {
+    int what;
+    size_t row;
+    uint16_t kind;
+    uint16_t tc;
+} compare_operation;
+
+/* A run of operations from the empty record, compared behind each: all of the record, and what it
+   says of the rows at both its ends, of two indices that have none, and of `row`. Gives the record at
+   the end. */
+moult_record compare_record(const compare_operation *run, size_t n, size_t row);
+/* What the record says of every row. */
+void compare_rows(moult_record record);
+/* Each operation and every question on a record that no operation made: there is no fault, and a
+   refusal changes nothing. */
+void compare_made_up(moult_record record, compare_operation values);
+
 #endif

@@ -1,6 +1,6 @@
 /* The library against the second C implementation over many inputs, the same in each run: legal
-   payloads, damaged and clipped ones, random octets, row lists, setting texts, fields, times and
-   journals. Payloads and row lists are tried in every session. */
+   payloads, damaged and clipped ones, random octets, row lists, setting texts, fields, times,
+   journals and packet records. Payloads and row lists are tried in every session. */
 #include "compare.h"
 
 #include <stdio.h>
@@ -519,6 +519,118 @@ static void try_groups(void)
     }
 }
 
+/* ---- packet records */
+
+/* Mostly a row of one rate, else of any kind and TC. */
+static compare_operation random_row(uint16_t plain)
+{
+    compare_operation o = {COMPARE_PUSH, 0, plain, 0};
+    if (plain == MOULT_KIND_2400 && one_in(3)) {
+        o.tc = random_tc();
+        o.kind = random_tsvcis(o.tc);
+    } else if (one_in(12)) {
+        o.kind = MOULT_KIND_COMFORT_NOISE;
+    } else if (one_in(8)) {
+        o.kind = random_number();
+        o.tc = one_in(2) ? 0 : random_number();
+    }
+    return o;
+}
+
+/* An operation on a record of about so many rows. */
+static compare_operation random_operation(uint16_t plain, size_t rows)
+{
+    compare_operation o = random_row(plain);
+    if (one_in(3))
+        o.what = one_in(2) ? COMPARE_POP : COMPARE_REPLACE;
+    o.row = one_in(10) ? (size_t)random_64() : below(rows + 2);
+    return o;
+}
+
+/* How many rows of a kind a packet may have. */
+static size_t most_rows(uint16_t kind, uint16_t tc)
+{
+    size_t most = MOULT_MAX_OCTETS / second_wire_octets(kind, tc);
+    return most < MOULT_MAX_FRAMES ? most : MOULT_MAX_FRAMES;
+}
+
+/* Short runs of any operations; long ones, in which a packet fills up to one of its limits first. */
+static void try_records(void)
+{
+    static const uint16_t kinds[] = {MOULT_KIND_2400, MOULT_KIND_600, MOULT_KIND_1200};
+    static compare_operation run[300];
+    for (int i = 0; i < 100000; i++) {
+        uint16_t plain = kinds[below(3)];
+        size_t full = one_in(500) ? most_rows(plain, 0) - below(3) : 0;
+        size_t n = full + below(full > 0 ? 60 : 24);
+        compare_operation row = {COMPARE_PUSH, 0, plain, 0};
+        for (size_t at = 0; at < n; at++)
+            run[at] = at < full ? row : random_operation(plain, full > 0 ? full : at / 2);
+        compare_rows(compare_record(run, n, below(MOULT_MAX_FRAMES + 1)));
+        compared++;
+    }
+}
+
+/* Totals on both sides of 1,400, by a row more and by another row in each place. */
+static void try_record_limits(void)
+{
+    static compare_operation run[MOULT_MAX_FRAMES + 2];
+    for (uint16_t tc = 1; tc <= 255; tc++) {
+        for (uint16_t kind = MOULT_KIND_TSVCIS; kind <= MOULT_KIND_TSVCIS_LONG; kind++) {
+            if (second_body_octets(kind, tc) == 0)
+                continue;
+            size_t rows = most_rows(kind, tc), n = rows + 1;
+            for (size_t i = 0; i < n; i++) {
+                compare_operation row = {COMPARE_PUSH, 0, kind, tc};
+                run[i] = row;
+            }
+            for (int more = -2; more <= 2; more++) {
+                size_t left = MOULT_MAX_OCTETS - rows * second_wire_octets(kind, tc);
+                compare_operation other = {COMPARE_REPLACE, below(rows), MOULT_KIND_TSVCIS,
+                                           (uint16_t)((int)(tc + left) + more)};
+                run[n] = other;
+                compare_record(run, n + 1, other.row);
+                compared++;
+            }
+        }
+    }
+}
+
+/* Records that no operation made: any octets, or one of an operation with a member changed. */
+static void try_made_up_records(void)
+{
+    for (int i = 0; i < 20000; i++) {
+        moult_record record = MOULT_RECORD_EMPTY;
+        compare_operation values = random_operation(MOULT_KIND_2400, MOULT_MAX_FRAMES);
+        size_t rows = below(4);
+        for (size_t row = 0; row < rows; row++)
+            record = second_record_push(record, MOULT_KIND_2400, 0).record;
+        switch (below(6)) {
+        case 0:
+            record.rows = one_in(2) ? (size_t)random_64() : 199 + below(4);
+            break;
+        case 1:
+            record.octets = one_in(2) ? SIZE_MAX - below(20) : 1390 + below(20);
+            break;
+        case 2:
+            record.ticks = UINT32_MAX - (uint32_t)below(800);
+            break;
+        case 3:
+            record.numbers[below(8)] = random_number();
+            break;
+        case 4:
+            record.starts[below(4)] = (uint16_t)random_64();
+            break;
+        default:
+            for (size_t at = 0; at < sizeof record; at++)
+                ((uint8_t *)&record)[at] = one_in(2) ? 0xFF : (uint8_t)random_64();
+            record.rows = one_in(2) ? below(202) : record.rows;
+        }
+        compare_made_up(record, values);
+        compared++;
+    }
+}
+
 int main(void)
 {
     try_sequences();
@@ -534,6 +646,9 @@ int main(void)
     try_fields();
     try_journals();
     try_groups();
+    try_records();
+    try_record_limits();
+    try_made_up_records();
     printf("%lu inputs: the library and the second C implementation answer alike\n", compared);
     return 0;
 }

@@ -310,6 +310,89 @@ static void run_entry_write(void)
     expect_writing(w, octets_of("entry", want_octets));
 }
 
+/* The next number, which may be one of 64 bits; *at is then behind it. */
+static size_t next_number(const char **at)
+{
+    char *end;
+    size_t number = strtoull(*at + strcspn(*at, "0123456789"), &end, 10);
+    *at = end;
+    return number;
+}
+
+/* An operation such as ["replace", 0, 3, 0]. */
+static moult_record_change operate(moult_record record, const char *at)
+{
+    int replaces = strncmp(at, "[\"replace\"", 10) == 0;
+    if (strncmp(at, "[\"pop\"", 6) == 0)
+        return CALL(record_pop)(record);
+    EXPECT(replaces || strncmp(at, "[\"push\"", 7) == 0);
+    size_t row = replaces ? next_number(&at) : 0;
+    uint16_t kind = (uint16_t)next_number(&at), tc = (uint16_t)next_number(&at);
+    return replaces ? CALL(record_replace)(record, row, kind, tc)
+                    : CALL(record_push)(record, kind, tc);
+}
+
+static int same_record(const moult_record *a, const moult_record *b)
+{
+    return memcmp(a->numbers, b->numbers, sizeof a->numbers) == 0 &&
+           memcmp(a->starts, b->starts, sizeof a->starts) == 0 && a->rows == b->rows &&
+           a->octets == b->octets && a->ticks == b->ticks;
+}
+
+/* The record behind a case's operations, of which those are refused that it says. */
+static moult_record run_operations(void)
+{
+    moult_record record = CALL(record_empty)();
+    const char *refusal = value_behind(line, "refusals"), *end = refusal;
+    const char *at = value_behind(line, "operations");
+    for (size_t i = 0; (at = strstr(at, "[\"")) != NULL && at < end; at++, i++) {
+        const char *next = refusal;
+        moult_record_change c = operate(record, at);
+        if (c.number == 0) {
+            EXPECT(c.place == 0);
+        } else {
+            EXPECT(same_record(&c.record, &record));
+            EXPECT(next_number(&next) == i);
+            EXPECT(next_number(&next) == c.number && next_number(&next) == c.place);
+            refusal = next;
+        }
+        record = c.record;
+    }
+    /* None is left: the list ends. */
+    EXPECT(refusal[strcspn(refusal, "0123456789\"")] == '"');
+    return record;
+}
+
+static void run_record(void)
+{
+    moult_record record = run_operations(), wanted = MOULT_RECORD_EMPTY;
+    size_t asked = number_of("asked");
+    wanted.rows = list_of("rows", listed) / 2;
+    memcpy(wanted.numbers, listed, 2 * wanted.rows * sizeof listed[0]);
+    EXPECT(list_of("starts", listed) == wanted.rows);
+    memcpy(wanted.starts, listed, wanted.rows * sizeof listed[0]);
+    wanted.octets = number_of("octets");
+    wanted.ticks = (uint32_t)number_of("ticks");
+    EXPECT(same_record(&record, &wanted));
+    EXPECT(CALL(record_rows)(record) == wanted.rows);
+    EXPECT(CALL(record_octets)(record) == wanted.octets);
+    EXPECT(CALL(record_ticks)(record) == wanted.ticks);
+    for (size_t i = 0; i < wanted.rows; i++) {
+        moult_row r = CALL(record_row)(record, i);
+        EXPECT(r.number == 0 && r.place == 0);
+        EXPECT(r.kind == wanted.numbers[2 * i] && r.tc == wanted.numbers[2 * i + 1]);
+        moult_start s = CALL(record_start)(record, i);
+        EXPECT(s.number == 0 && s.place == 0 && s.start == wanted.starts[i]);
+    }
+    moult_row r = CALL(record_row)(record, asked);
+    moult_start s = CALL(record_start)(record, asked);
+    uint16_t row[2] = {0, 0};
+    list_of("row", row);
+    EXPECT(r.number == number_of("number") && r.place == number_of("place"));
+    EXPECT(r.kind == row[0] && r.tc == row[1]);
+    EXPECT(s.number == r.number && s.place == r.place && s.start == number_of("start"));
+}
+
 static void run_line(void)
 {
     static const struct {
@@ -329,6 +412,7 @@ static void run_line(void)
         {"pack", run_pack},
         {"entry", run_entry},
         {"entry_write", run_entry_write},
+        {"record", run_record},
     };
     char name[20];
     EXPECT(sscanf(line, "{\"case\": \"%19[a-z_]\"", name) == 1);

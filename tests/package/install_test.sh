@@ -20,13 +20,17 @@ lib=$prefix/lib
 version=$(sed -n 's/^Version: //p' "$lib/pkgconfig/moult.pc")
 major=${version%%.*}
 
-# The libraries have the header's functions, nothing else to be seen, and need nothing. The texts stand in the header.
+# The libraries have the header's functions, nothing else to be seen, and ask for two of the C library's. The texts stand in the header.
 declared=$(grep -oE '^[a-z].*\bmoult_[a-z_]+\(' include/moult.h | grep -v '^static' | grep -oE 'moult_[a-z_]+\(' | tr -d '(' | sort)
-same "the shared library's symbols" "$(nm -D "$lib/libmoult.so" | awk '{print $NF}' | sort)" "$declared"
-same "the static library's symbols" "$(nm -g "$lib/libmoult.a" | awk 'NF > 1 {print $NF}' | sort)" "$declared"
+asked=$'memcpy\nmemset'
+same "the shared library's symbols" "$(nm -D --defined-only "$lib/libmoult.so" | awk '{print $NF}' | sort)" "$declared"
+same "the static library's symbols" "$(nm -g --defined-only "$lib/libmoult.a" | awk 'NF > 1 {print $NF}' | sort)" "$declared"
+same "what the shared library asks for" "$(nm -D --undefined-only "$lib/libmoult.so" | awk '{sub(/@.*/, "", $NF); print $NF}' | sort)" "$asked"
+same "what the static library asks for" "$(nm -g --undefined-only "$lib/libmoult.a" | awk 'NF > 1 {print $NF}' | sort)" "$asked"
 dynamic=$(readelf -dW "$lib/libmoult.so")
 same "the name" "$(sed -n 's/.*(SONAME).*\[\(.*\)\]/\1/p' <<<"$dynamic")" "libmoult.so.$major"
-grep -qE '\((NEEDED|TEXTREL)\)' <<<"$dynamic" && fail "the shared library needs another one, or writes into its code"
+same "what it needs" "$(sed -n 's/.*(NEEDED).*\[\(.*\)\]/\1/p' <<<"$dynamic")" "libc.so.6"
+grep -qF '(TEXTREL)' <<<"$dynamic" && fail "the shared library writes into its code"
 [ "$(readlink -f "$lib/libmoult.so.$major")" = "$(readlink -f "$lib/libmoult.so.$version")" ] || fail "no libmoult.so.$major"
 grep -rqF "$folder" "$prefix" && fail "a file names the folder that it was installed into"
 

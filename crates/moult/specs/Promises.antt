@@ -33,7 +33,13 @@ use Rattle.journal.specs.Answers.{Writes as WritesEntry}
 use Rattle.journal.specs.Answers as journal
 use Rattle.journal.specs.declared.Standing.{Standing}
 use Rattle.journal.specs.declared.Written.{Written as EntryWritten}
-use Rattle.moult.specs.Structs.{entryOf, readingOf, writingOf, ticksOf, millisOf, parsedOf, lent, partOf}
+use Rattle.record.specs.Operations.{Operation}
+use Rattle.record.specs.Promise.{Changes, AskedAt, rowReport, rowHeld, rowIn, startReport, startHeld, startIn}
+use Rattle.record.specs.declared.Record.{Record}
+use Rattle.record.specs.declared.Change.{Change}
+use Rattle.record.specs.declared.RowAsked.{RowAsked}
+use Rattle.record.specs.declared.StartAsked.{StartAsked}
+use Rattle.moult.specs.Structs.{changeOf, rowOf, startOf, entryOf, readingOf, writingOf, ticksOf, millisOf, parsedOf, lent, partOf}
 use Rattle.moult.specs.declared.MoultReading.{MoultReading}
 use Rattle.moult.specs.declared.MoultWriting.{MoultWriting}
 use Rattle.moult.specs.declared.MoultTicks.{MoultTicks}
@@ -41,6 +47,9 @@ use Rattle.moult.specs.declared.MoultMillis.{MoultMillis}
 use Rattle.moult.specs.declared.MoultPart.{MoultPart}
 use Rattle.moult.specs.declared.MoultParsed.{MoultParsed}
 use Rattle.moult.specs.declared.MoultEntry.{MoultEntry}
+use Rattle.moult.specs.declared.MoultChange.{MoultChange}
+use Rattle.moult.specs.declared.MoultRow.{MoultRow}
+use Rattle.moult.specs.declared.MoultStart.{MoultStart}
 
 -- the struct x is that of an answer of which a promise holds
 pub record Returned {A X : Type 0} (Promise : A → Type 0) (structOf : A → X) (x : X) : Type 0 where
@@ -112,3 +121,15 @@ HostEntry xs i x = Returned (λ (a : Standing). Stands xs i a) (λ (a : Standing
 -- what `moult_journal_write_entry` promises of an entry
 abbrev pub HostWritesEntry : Entry → List ℕ → MoultWriting → List ℕ → Type 0
 HostWritesEntry e before x after = Returned (λ (a : EntryWritten). WritesEntry e before after a) (λ (a : EntryWritten). writingOf (journal.writtenReport a)) x
+
+-- what `moult_record_push`, `moult_record_pop` and `moult_record_replace` promise of a packet record p
+abbrev pub HostChanges : Operation → Record → MoultChange → Type 0
+HostChanges op p x = Returned (λ (a : Change). Changes op p a) changeOf x
+
+-- what `moult_record_row` promises of the row i of a packet record p
+abbrev pub HostRow : ℕ → Record → MoultRow → Type 0
+HostRow i p x = Returned (λ (a : RowAsked). AskedAt rowReport (rowHeld i) (rowIn i) p a) (λ (a : RowAsked). rowOf (rowReport a)) x
+
+-- what `moult_record_start` promises of the row i of a packet record p
+abbrev pub HostStart : ℕ → Record → MoultStart → Type 0
+HostStart i p x = Returned (λ (a : StartAsked). AskedAt startReport (startHeld i) (startIn i) p a) (λ (a : StartAsked). startOf (startReport a)) x

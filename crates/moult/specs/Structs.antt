@@ -16,6 +16,11 @@ use Rattle.wire.specs.declared.Summary.{Summary}
 use Rattle.clock.specs.declared.Ticks.{Ticks}
 use Rattle.clock.specs.declared.Millis.{Millis}
 use Rattle.fmtp.specs.declared.Settings.{Settings}
+use Rattle.record.specs.declared.Change.{Change}
+use Rattle.record.specs.declared.RowNumbers.{RowNumbers}
+use Rattle.moult.specs.declared.MoultChange.{MoultChange}
+use Rattle.moult.specs.declared.MoultRow.{MoultRow}
+use Rattle.moult.specs.declared.MoultStart.{MoultStart}
 use Rattle.moult.specs.declared.MoultReading.{MoultReading}
 use Rattle.moult.specs.declared.MoultWriting.{MoultWriting}
 use Rattle.moult.specs.declared.MoultTicks.{MoultTicks}
@@ -81,6 +86,18 @@ entryOf a = record {
   start = a .value .start;
   next = a .value .next;
 }
+
+-- what an operation on a packet record came to
+abbrev pub changeOf : Change → MoultChange
+changeOf c = record { number = c .refusal .number; place = c .refusal .place; after = c .after }
+
+-- a row of a packet record
+abbrev pub rowOf : Report RowNumbers → MoultRow
+rowOf a = record { number = a .number; kind = a .value .kind; tc = a .value .tc; place = a .place }
+
+-- where a row of a packet record starts
+abbrev pub startOf : Report ℕ → MoultStart
+startOf a = record { number = a .number; place = a .place; start = a .value }
 
 -- a whole lent list, of the block b: 0 is the payload, 1 the stand-in
 abbrev pub lent : ℕ → List ℕ → Part ℕ

@@ -1,12 +1,17 @@
 // The library as a C host calls it. A slice is a pointer and a length; include/moult.h declares each function.
 ghost use mathlib.Core.Path.{_≡_};
 ghost use mathlib.Core.Option.{some};
-ghost use Rattle.wire.specs.Frame.{kindOf};
+ghost use mathlib.Core.List.{[]};
+ghost use lib.ListN.{length};
+ghost use Rattle.wire.specs.Frame.{kindOf, sumOf, ticks, wireOctets};
 ghost use Rattle.refusal.specs.Report.{accepted, refusedWith};
 ghost use Rattle.journal.specs.Answers.{nothing};
 ghost use Rattle.wire.specs.declared.Session.the-variants.{NotAgreed};
-ghost use Rattle.moult.specs.Structs.{sessionOf, writingOf, entryOf, bodyOctetsOf, version};
-ghost use Rattle.moult.specs.Promises.{Counted, HostReads, HostWrites, HostTimes, HostPtime, HostAugments, HostShows, HostParses, HostWritesSettings, HostUnpacks, HostPacks, HostEntry, HostWritesEntry};
+ghost use Rattle.record.specs.Afresh.{recordOf};
+ghost use Rattle.record.specs.Operations.{toPush, toPop, toReplace};
+ghost use Rattle.record.specs.Promise.{Asked};
+ghost use Rattle.moult.specs.Structs.{sessionOf, writingOf, entryOf, changeOf, bodyOctetsOf, version};
+ghost use Rattle.moult.specs.Promises.{Counted, HostReads, HostWrites, HostTimes, HostPtime, HostAugments, HostShows, HostParses, HostWritesSettings, HostUnpacks, HostPacks, HostEntry, HostWritesEntry, HostChanges, HostRow, HostStart};
 use clock::PacketMillis;
 use clock::PacketTicks;
 use fields::Packed;
@@ -15,6 +20,10 @@ use fmtp::Parsed;
 use fmtp::Written;
 use journal::Standing;
 use reader::Reading;
+use record::Change;
+use record::Record;
+use record::RowAsked;
+use record::StartAsked;
 use refusal::Refusal;
 use views::Location;
 use wire::Framing;
@@ -99,6 +108,31 @@ pub struct MoultEntry {
     pub source: u64,
     pub start: usize,
     pub next: usize,
+}
+
+// What an operation on a packet record came to: number and place, and the record, unchanged where refused.
+#[repr(C)]
+pub struct MoultChange {
+    pub number: u32,
+    pub place: usize,
+    pub after: Record,
+}
+
+// A row of a packet record: number and place, kind and TC.
+#[repr(C)]
+pub struct MoultRow {
+    pub number: u32,
+    pub kind: u16,
+    pub tc: u16,
+    pub place: usize,
+}
+
+// Where a row of a packet record starts on the wire: number and place, and the index.
+#[repr(C)]
+pub struct MoultStart {
+    pub number: u32,
+    pub place: usize,
+    pub start: usize,
 }
 
 // The library's version.
@@ -534,5 +568,119 @@ pub extern "C" fn moult_journal_write_entry(
     match answer {
         journal::Written::Octets(octets) => written(octets),
         journal::Written::Refused(refusal) => not_written(refusal),
+    }
+}
+
+fn changed(change: Change) -> MoultChange
+    ensures { λ r. ⌜ r ≡ changeOf change ⌝ }
+{
+    let after = change.after;
+    MoultChange {
+        number: change.refusal.number as u32,
+        place: change.refusal.place,
+        after,
+    }
+}
+
+// The packet record of no rows.
+#[no_mangle]
+pub extern "C" fn moult_record_empty() -> Record
+    ensures { λ r. ⌜ r ≡ recordOf [] ⌝ }
+{
+    record::empty()
+}
+
+// Takes a row at the end of a packet record.
+#[no_mangle]
+pub extern "C" fn moult_record_push(packet: Record, kind: u16, tc: u16) -> MoultChange
+    ensures { λ r. ⌜ HostChanges (toPush kind tc) packet r ⌝ }
+{
+    changed(record::push(packet, kind, tc))
+}
+
+// Drops the last row of a packet record.
+#[no_mangle]
+pub extern "C" fn moult_record_pop(packet: Record) -> MoultChange
+    ensures { λ r. ⌜ HostChanges toPop packet r ⌝ }
+{
+    changed(record::pop(packet))
+}
+
+// Replaces a row of a packet record.
+#[no_mangle]
+pub extern "C" fn moult_record_replace(
+    packet: Record,
+    row: usize,
+    kind: u16,
+    tc: u16,
+) -> MoultChange
+    ensures { λ r. ⌜ HostChanges (toReplace row kind tc) packet r ⌝ }
+{
+    changed(record::replace(packet, row, kind, tc))
+}
+
+// How many rows a packet record has.
+#[no_mangle]
+pub extern "C" fn moult_record_rows(packet: Record) -> usize
+    ensures { λ r. ⌜ Asked (λ (p : Record). p .rows) length packet r ⌝ }
+{
+    record::rows_of(packet)
+}
+
+// The octets of its rows on the wire.
+#[no_mangle]
+pub extern "C" fn moult_record_octets(packet: Record) -> usize
+    ensures { λ r. ⌜ Asked (λ (p : Record). p .octets) (sumOf wireOctets) packet r ⌝ }
+{
+    record::octets_of(packet)
+}
+
+// The ticks of its rows.
+#[no_mangle]
+pub extern "C" fn moult_record_ticks(packet: Record) -> u32
+    ensures { λ r. ⌜ Asked (λ (p : Record). p .ticks) (sumOf ticks) packet r ⌝ }
+{
+    packet.ticks
+}
+
+// A row of a packet record.
+#[no_mangle]
+pub extern "C" fn moult_record_row(packet: Record, row: usize) -> MoultRow
+    ensures { λ r. ⌜ HostRow row packet r ⌝ }
+{
+    let answer = record::row_at(packet, row);
+    match answer {
+        RowAsked::Is(numbers) => MoultRow {
+            number: 0,
+            kind: numbers.kind,
+            tc: numbers.tc,
+            place: 0,
+        },
+        RowAsked::Refused(refusal) => MoultRow {
+            number: refusal.number as u32,
+            kind: 0,
+            tc: 0,
+            place: refusal.place,
+        },
+    }
+}
+
+// Where a row of a packet record starts on the wire.
+#[no_mangle]
+pub extern "C" fn moult_record_start(packet: Record, row: usize) -> MoultStart
+    ensures { λ r. ⌜ HostStart row packet r ⌝ }
+{
+    let answer = record::start_at(packet, row);
+    match answer {
+        StartAsked::At(start) => MoultStart {
+            number: 0,
+            place: 0,
+            start,
+        },
+        StartAsked::Refused(refusal) => MoultStart {
+            number: refusal.number as u32,
+            place: refusal.place,
+            start: 0,
+        },
     }
 }

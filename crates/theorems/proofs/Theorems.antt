@@ -13,11 +13,12 @@ use Rattle.leb128.proofs.Possible.{Roomy, none-impossible, impossible-none, sho
 use Rattle.journal.specs.Replay.{whole}
 use Rattle.journal.proofs.Journals.{replay-sound, whole-journal, refused-journal, reads-written, one-reading, one-list, some-reading}
 use Rattle.journal.proofs.Writing.{legal-written, written-legal}
+use Rattle.record.proofs.Runs.{runs-afresh}
 use Rattle.listing.proofs.LineByLine.{says, only}
 use Rattle.listing.proofs.LineNumbers.{lines-most}
 use Rattle.listing.proofs.Joined.{joined}
 use Rattle.listing.proofs.Sample.{sample}
-use Rattle.theorems.specs.Theorems.{WalkIsExact, FiveIsNotGiven, ReadingUndoesWriting, BenchPayloads, PtimesDecided, ViewsJoin, SettingsAreExact, FieldsReturn, NumbersAreExact, ListingIsExact, BadNumbersAreExact, JournalsAreExact}
+use Rattle.theorems.specs.Theorems.{WalkIsExact, FiveIsNotGiven, ReadingUndoesWriting, BenchPayloads, PtimesDecided, ViewsJoin, SettingsAreExact, FieldsReturn, NumbersAreExact, ListingIsExact, BadNumbersAreExact, JournalsAreExact, PacketRecordsAreAfresh}
 use Rattle.theorems.proofs.RoundTrips.{read-written, written-read}
 use Rattle.theorems.proofs.NotGiven.{end-not, walk-not, reading-not, count-not, time-not, line-not}
 
@@ -87,3 +88,6 @@ journals-are-exact = record {
   written = legal-written;
   accepted = written-legal;
 }
+
+pub packet-records-are-afresh : PacketRecordsAreAfresh
+packet-records-are-afresh = runs-afresh

@@ -48,6 +48,7 @@ use Rattle.journal.specs.Entry.{Entry, mostGroups, topNumber, entryOctets, jour
 use Rattle.journal.specs.Entry as journal
 use Rattle.journal.specs.Answers.{writing}
 use Rattle.journal.specs.Replay.{Ending, whole, Replay, RefusedAt}
+use Rattle.record.specs.Runs.{RunsAfresh}
 use Rattle.listing.specs.Line.{refusedWord, lineWith, payloadLine}
 use Rattle.listing.specs.Listing.{Lists, Stage, run, fresh, listing}
 use Rattle.listing.specs.Answers.{Calls}
@@ -167,3 +168,7 @@ pub record JournalsAreExact : Type 0 where
   -- the writer accepts exactly the legal entries for which there is room
   pub written : (e : Entry) (room : ℕ) → journal.Legal e → length (entryOctets e) ≤ room → writing e room ≡ accepted (length (entryOctets e))
   pub accepted : (e : Entry) (room n : ℕ) → writing e room ≡ accepted n → journal.Legal e × (n ≡ length (entryOctets e)) × (n ≤ room)
+
+-- packet records: behind any run of operations from the empty one, the record is that of the rows that result, worked out afresh
+abbrev pub PacketRecordsAreAfresh : Type 0
+PacketRecordsAreAfresh = RunsAfresh

@@ -11,6 +11,7 @@ mod list_cases;
 mod lists;
 mod print;
 mod read_cases;
+mod record_cases;
 mod session_cases;
 mod settings_cases;
 mod text;
@@ -53,6 +54,8 @@ fn run_case(name: &[u8], head: &[usize], data: &[u8]) {
         journal_cases::entry(head, data);
     } else if check::same(name, b"entry_write") {
         journal_cases::write(head, data);
+    } else if check::same(name, b"record") {
+        record_cases::record(head, data);
     } else {
         print::malformed();
     }

@@ -1,7 +1,7 @@
 //! The only module with unsafe code: the declarations of moult.h, and each function over slices.
 //!
 //! Every call is sound for any slices: the library reads and writes within the lengths lent and
-//! keeps no pointer.
+//! keeps no pointer. Records go in and come back by value, and any is taken.
 #![allow(unsafe_code)]
 
 #[repr(C)]
@@ -64,6 +64,38 @@ pub struct Entry {
     pub source: u64,
     pub start: usize,
     pub next: usize,
+}
+
+#[repr(C)]
+#[derive(Clone, Copy, Debug, PartialEq, Eq)]
+pub struct Record {
+    pub numbers: [u16; 400],
+    pub starts: [u16; 200],
+    pub rows: usize,
+    pub octets: usize,
+    pub ticks: u32,
+}
+
+#[repr(C)]
+pub struct RecordChange {
+    pub number: u32,
+    pub place: usize,
+    pub record: Record,
+}
+
+#[repr(C)]
+pub struct Row {
+    pub number: u32,
+    pub kind: u16,
+    pub tc: u16,
+    pub place: usize,
+}
+
+#[repr(C)]
+pub struct Start {
+    pub number: u32,
+    pub place: usize,
+    pub start: usize,
 }
 
 unsafe extern "C" {
@@ -165,6 +197,15 @@ unsafe extern "C" {
         out: *mut u8,
         out_n: usize,
     ) -> Writing;
+    fn moult_record_empty() -> Record;
+    fn moult_record_push(record: Record, kind: u16, tc: u16) -> RecordChange;
+    fn moult_record_pop(record: Record) -> RecordChange;
+    fn moult_record_replace(record: Record, row: usize, kind: u16, tc: u16) -> RecordChange;
+    fn moult_record_rows(record: Record) -> usize;
+    fn moult_record_octets(record: Record) -> usize;
+    fn moult_record_ticks(record: Record) -> u32;
+    fn moult_record_row(record: Record, row: usize) -> Row;
+    fn moult_record_start(record: Record, row: usize) -> Start;
 }
 
 pub fn version() -> u32 {
@@ -343,4 +384,40 @@ pub fn journal_write_entry(ticks: u64, source: u64, payload: &[u8], out: &mut [u
             out.len(),
         )
     }
+}
+
+pub fn record_empty() -> Record {
+    unsafe { moult_record_empty() }
+}
+
+pub fn record_push(record: Record, kind: u16, tc: u16) -> RecordChange {
+    unsafe { moult_record_push(record, kind, tc) }
+}
+
+pub fn record_pop(record: Record) -> RecordChange {
+    unsafe { moult_record_pop(record) }
+}
+
+pub fn record_replace(record: Record, row: usize, kind: u16, tc: u16) -> RecordChange {
+    unsafe { moult_record_replace(record, row, kind, tc) }
+}
+
+pub fn record_rows(record: Record) -> usize {
+    unsafe { moult_record_rows(record) }
+}
+
+pub fn record_octets(record: Record) -> usize {
+    unsafe { moult_record_octets(record) }
+}
+
+pub fn record_ticks(record: Record) -> u32 {
+    unsafe { moult_record_ticks(record) }
+}
+
+pub fn record_row(record: Record, row: usize) -> Row {
+    unsafe { moult_record_row(record, row) }
+}
+
+pub fn record_start(record: Record, row: usize) -> Start {
+    unsafe { moult_record_start(record, row) }
 }

@@ -1,6 +1,6 @@
 //! Safe calls into moult, the proved library that reads and writes RTP payloads of MELPe and TSVCIS
-//! speech frames (RFC 8817), tells their time, setting text and 600 bps fields (RFC 8130), and keeps
-//! payloads in a [`journal`].
+//! speech frames (RFC 8817), tells their time, setting text and 600 bps fields (RFC 8130), keeps
+//! payloads in a [`journal`], and a packet's frame starts in a [`Record`].
 //!
 //! ```
 //! let payload = [0, 0, 0, 0, 0, 0, 0, 0x00, 0xA0]; // a 2400 bps frame, then comfort noise
@@ -43,6 +43,7 @@ mod frames;
 pub mod journal;
 mod numbered;
 mod payload;
+mod record;
 mod refusal;
 mod session;
 mod settings;
@@ -53,6 +54,7 @@ mod views;
 pub use fields::{pack, unpack};
 pub use frames::{Frame, Frames, FramesError, Kind, body_octets, frames};
 pub use payload::{Reading, count, read, read_in, write, write_in};
+pub use record::Record;
 pub use refusal::{Call, Reason, Refusal};
 pub use session::Session;
 pub use settings::Settings;

@@ -19,8 +19,8 @@ numbered! {
     /// assert_eq!(Reason::Other(99).to_string(), "refusal 99");
     /// ```
     Reason: u32 {
-        /// More than 1,400 octets or, in the writer, more than 200 rows. Place: 1400; journal reader:
-        /// where the entry begins, from 0.
+        /// More than 1,400 octets or, in writer and record, more than 200 rows. Place: 1400; journal
+        /// reader: where the entry begins, from 0.
         TooLong = 1, "too long";
         /// A frame is cut at the front. Place: unread.
         FrameCut = 2, "frame cut at the front";
@@ -32,12 +32,12 @@ numbered! {
         /// No longer given: a long count of 15 to 77 makes a
         /// [`Kind::TsvcisLong`](crate::Kind::TsvcisLong).
         LongCountShortRange = 5, "long count of 15 to 77";
-        /// Comfort noise is not last. Place: unread; writer: row, from 0.
+        /// Comfort noise is not last. Place: unread; writer and record: row, from 0.
         ComfortNoiseNotLast = 6, "comfort noise not last";
         /// Augmentation is not behind a 2400 bps frame. Place: unread.
         AugmentationNot2400 = 7, "augmentation not behind a 2400 bps frame";
-        /// Coder frames are of several rates, or not of the agreed one. Place: unread; writer: row,
-        /// from 0.
+        /// Coder frames are of several rates, or not of the agreed one. Place: unread; writer and
+        /// record: row, from 0.
         RatesMixed = 8, "rates mixed";
         /// The number list is too short. Place: rows needed, or fields needed.
         NumbersTooShort = 9, "number list too short";
@@ -45,9 +45,10 @@ numbered! {
         OctetsTooShort = 10, "octet buffer too short";
         /// The row list has an odd length. Place: that length.
         OddRows = 11, "odd row list";
-        /// The kind, rate or number of frames is unknown. Place: writer: row, from 0; else, and for
-        /// the agreed rate of a session, 0.
-        Unknown = 12, "unknown kind, rate or number of frames";
+        /// The kind, rate, row or number of frames is unknown. Place: of a kind, in writer and record:
+        /// row, from 0; else, also for the agreed rate of a session and for a row that a record does
+        /// not have, 0.
+        Unknown = 12, "unknown kind, rate, row or number of frames";
         /// The TC is wrong for the kind. Place: row, from 0.
         WrongTc = 13, "TC wrong for the kind";
         /// A length is wrong. Place: length needed.
@@ -102,6 +103,11 @@ pub enum Call {
     JournalRead,
     /// [`journal::write_entry`](crate::journal::write_entry).
     JournalWrite,
+    /// [`Record::push`](crate::Record::push), or [`Record::replace`](crate::Record::replace) of a row
+    /// that the record has.
+    RecordChange,
+    /// Any other call of a [`Record`](crate::Record): its row is missing.
+    RecordRow,
     /// Any call that takes a [`Session`](crate::Session), whose agreed rate was refused.
     Session,
 }
@@ -132,12 +138,19 @@ impl Refusal {
                 "in the entry that begins at octet ",
                 " of the journal (from 0)",
             ),
-            (Reason::TooLong, Call::Write) => ("at most 200 rows and ", " octets are allowed"),
+            (Reason::TooLong, Call::Write | Call::RecordChange) => {
+                ("at most 200 rows and ", " octets are allowed")
+            }
             (Reason::TooLong, _) => ("at most ", " octets are allowed"),
             (Reason::ReservedBits, Call::Write) => ("at octet ", " of the bodies (from 0)"),
             (Reason::ReservedBits, Call::Unpack) => ("at octet ", " of the body (from 0)"),
-            (Reason::ComfortNoiseNotLast | Reason::RatesMixed, Call::Write)
-            | (Reason::Unknown | Reason::WrongTc, Call::Write) => ("at row ", " (from 0)"),
+            (
+                Reason::ComfortNoiseNotLast
+                | Reason::RatesMixed
+                | Reason::Unknown
+                | Reason::WrongTc,
+                Call::Write | Call::RecordChange,
+            ) => ("at row ", " (from 0)"),
             (
                 Reason::FrameCut
                 | Reason::ReservedBits

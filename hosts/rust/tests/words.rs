@@ -1,6 +1,6 @@
 //! Every refusal in words: why, and what its place says in the call that gave it.
 
-use moult::{Call, Refusal, Session, Settings, journal};
+use moult::{Call, Kind, Record, Refusal, Session, Settings, journal};
 
 fn read(payload: &[u8], rows: usize, octets: usize) -> Refusal {
     moult::read(payload, &mut vec![0; rows], &mut vec![0; octets]).unwrap_err()
@@ -58,7 +58,7 @@ fn of_the_writer() {
         (
             &[1, 0, 9, 0],
             0,
-            "refusal 12: unknown kind, rate or number of frames, at row 1",
+            "refusal 12: unknown kind, rate, row or number of frames, at row 1",
             row,
         ),
         (
@@ -104,7 +104,7 @@ fn of_the_writer() {
 /// Row 0 is not to blame for an agreed rate.
 #[test]
 fn of_a_session() {
-    let words = "refusal 12: unknown kind, rate or number of frames";
+    let words = "refusal 12: unknown kind, rate, row or number of frames";
     for rate in [0, 1200, 2401, u32::MAX] {
         let session = Session::Agreed(rate);
         let refusals = [
@@ -145,7 +145,10 @@ fn of_a_session() {
 #[test]
 fn of_time_and_settings() {
     let time = moult::ptime(2400, 0).unwrap_err();
-    says(time, "refusal 12: unknown kind, rate or number of frames");
+    says(
+        time,
+        "refusal 12: unknown kind, rate, row or number of frames",
+    );
     let wrong = "refusal 15: setting text or settings wrong";
     says("tcmax=".parse::<Settings>().unwrap_err(), wrong);
     for rates in [
@@ -223,4 +226,47 @@ fn of_the_journal() {
     let top = u32::MAX.into();
     let needed = journal::write_entry(top, top, &most, &mut []).unwrap_err();
     assert_eq!(needed.place, moult::MAX_ENTRY);
+}
+
+/// Row 0 is not to blame for a row that is missing.
+#[test]
+fn of_a_record() {
+    let unknown = "refusal 12: unknown kind, rate, row or number of frames";
+    let mut record = Record::new();
+    for missing in [
+        record.pop().unwrap_err(),
+        record.replace(0, Kind::Other(9), 0).unwrap_err(),
+        record.row(0).unwrap_err(),
+        record.start(usize::MAX).unwrap_err(),
+    ] {
+        assert_eq!((missing.call, missing.place), (Call::RecordRow, 0));
+        says(missing, unknown);
+    }
+    let at_row_0 = format!("{unknown}, at row 0 (from 0)");
+    says(record.push(Kind::Other(9), 0).unwrap_err(), &at_row_0);
+    record.push(Kind::Rate2400, 0).unwrap();
+    says(record.replace(0, Kind::Other(0), 0).unwrap_err(), &at_row_0);
+    says(
+        record.push(Kind::Rate2400, 1).unwrap_err(),
+        "refusal 13: TC wrong for the kind, at row 1 (from 0)",
+    );
+    says(
+        record.push(Kind::Rate600, 0).unwrap_err(),
+        "refusal 8: rates mixed, at row 1 (from 0)",
+    );
+    record.push(Kind::ComfortNoise, 0).unwrap();
+    says(
+        record.push(Kind::Rate2400, 0).unwrap_err(),
+        "refusal 6: comfort noise not last, at row 1 (from 0)",
+    );
+    let shown = format!("{record:?}");
+    assert_eq!(shown, "Record [(Rate2400, 0, 0), (ComfortNoise, 0, 7)]");
+
+    let limit = "refusal 1: too long, at most 200 rows and 1400 octets are allowed";
+    record.pop().unwrap();
+    for _ in 1..200 {
+        record.push(Kind::Rate2400, 0).unwrap();
+    }
+    says(record.push(Kind::Other(9), 0).unwrap_err(), limit);
+    says(record.replace(7, Kind::Tsvcis, 1).unwrap_err(), limit);
 }

@@ -3,7 +3,10 @@
 //! through the call.
 #![allow(unsafe_code, clippy::missing_safety_doc)]
 
-use crate::{Refusal, fields, journal, payload, settings, time, views, writer};
+use crate::refusal::UNKNOWN;
+use crate::{
+    MAX_FRAMES, Refusal, fields, journal, kinds, payload, record, settings, time, views, writer,
+};
 use std::slice::{from_raw_parts, from_raw_parts_mut};
 
 #[repr(C)]
@@ -65,6 +68,96 @@ pub struct Entry {
     pub next: usize,
 }
 
+#[repr(C)]
+#[derive(Clone, Copy, Debug, PartialEq)]
+pub struct Record {
+    pub numbers: [u16; 2 * MAX_FRAMES],
+    pub starts: [u16; MAX_FRAMES],
+    pub rows: usize,
+    pub octets: usize,
+    pub ticks: u32,
+}
+
+#[repr(C)]
+#[derive(Clone, Copy, Debug, PartialEq)]
+pub struct RecordChange {
+    pub number: u32,
+    pub place: usize,
+    pub record: Record,
+}
+
+#[repr(C)]
+#[derive(Clone, Copy, Debug, PartialEq)]
+pub struct Row {
+    pub number: u32,
+    pub kind: u16,
+    pub tc: u16,
+    pub place: usize,
+}
+
+#[repr(C)]
+#[derive(Clone, Copy, Debug, PartialEq)]
+pub struct Start {
+    pub number: u32,
+    pub place: usize,
+    pub start: usize,
+}
+
+impl Record {
+    pub const EMPTY: Record = Record {
+        numbers: [0; 2 * MAX_FRAMES],
+        starts: [0; MAX_FRAMES],
+        rows: 0,
+        octets: 0,
+        ticks: 0,
+    };
+
+    /// All of it, worked out from the rows.
+    fn of(kept: &record::Record) -> Record {
+        let mut record = Record {
+            rows: kept.rows(),
+            octets: kept.octets(),
+            ticks: kept.ticks() as u32,
+            ..Record::EMPTY
+        };
+        record.numbers[..kept.numbers().len()].copy_from_slice(kept.numbers());
+        for (place, start) in record.starts.iter_mut().zip(kept.starts()) {
+            *place = start as u16;
+        }
+        record
+    }
+
+    /// Its rows; of a record that no operation made, as many as it has room for.
+    fn list(&self) -> &[u16] {
+        &self.numbers[..2 * self.rows.min(MAX_FRAMES)]
+    }
+
+    fn changed(
+        &self,
+        operation: impl FnOnce(&mut record::Record) -> Result<(), Refusal>,
+    ) -> Result<Record, Refusal> {
+        let mut kept = record::Record::of(self.list())?;
+        operation(&mut kept)?;
+        Ok(Record::of(&kept))
+    }
+
+    /// Where refused, the record is as it was.
+    fn change(
+        self,
+        operation: impl FnOnce(&mut record::Record) -> Result<(), Refusal>,
+    ) -> RecordChange {
+        let (number, place, record) = match self.changed(operation) {
+            Ok(record) => (0, 0, record),
+            Err(refusal) => (refusal.number, refusal.place, self),
+        };
+        RecordChange {
+            number,
+            place,
+            record,
+        }
+    }
+}
+
 fn parts<T: Default>(answer: Result<T, Refusal>) -> (u32, usize, T) {
     match answer {
         Ok(value) => (0, 0, value),
@@ -115,6 +208,11 @@ pub unsafe extern "C" fn rust_read(
         octets: walked.octets,
         ticks: walked.ticks,
     }
+}
+
+#[unsafe(no_mangle)]
+pub extern "C" fn rust_body_octets(kind: u16, tc: u16) -> usize {
+    kinds::body_octets(kind, tc)
 }
 
 #[unsafe(no_mangle)]
@@ -259,4 +357,77 @@ pub unsafe extern "C" fn rust_journal_write_entry(
     writing(journal::write_entry(ticks, source, payload, unsafe {
         from_raw_parts_mut(o, on)
     }))
+}
+
+#[unsafe(no_mangle)]
+pub extern "C" fn rust_record_empty() -> Record {
+    Record::EMPTY
+}
+
+#[unsafe(no_mangle)]
+pub extern "C" fn rust_record_push(record: Record, kind: u16, tc: u16) -> RecordChange {
+    record.change(|kept| kept.push(kind, tc))
+}
+
+#[unsafe(no_mangle)]
+pub extern "C" fn rust_record_pop(record: Record) -> RecordChange {
+    record.change(record::Record::pop)
+}
+
+#[unsafe(no_mangle)]
+pub extern "C" fn rust_record_replace(
+    record: Record,
+    row: usize,
+    kind: u16,
+    tc: u16,
+) -> RecordChange {
+    record.change(|kept| kept.replace(row, kind, tc))
+}
+
+#[unsafe(no_mangle)]
+pub extern "C" fn rust_record_rows(record: Record) -> usize {
+    record.rows
+}
+
+#[unsafe(no_mangle)]
+pub extern "C" fn rust_record_octets(record: Record) -> usize {
+    record.octets
+}
+
+#[unsafe(no_mangle)]
+pub extern "C" fn rust_record_ticks(record: Record) -> u32 {
+    record.ticks
+}
+
+#[unsafe(no_mangle)]
+pub extern "C" fn rust_record_row(record: Record, row: usize) -> Row {
+    let found = record.list().chunks_exact(2).nth(row);
+    match found {
+        Some(numbers) => Row {
+            number: 0,
+            kind: numbers[0],
+            tc: numbers[1],
+            place: 0,
+        },
+        None => Row {
+            number: UNKNOWN,
+            kind: 0,
+            tc: 0,
+            place: 0,
+        },
+    }
+}
+
+#[unsafe(no_mangle)]
+pub extern "C" fn rust_record_start(record: Record, row: usize) -> Start {
+    let starts = &record.starts[..record.list().len() / 2];
+    let (number, start) = match starts.get(row) {
+        Some(start) => (0, usize::from(*start)),
+        None => (UNKNOWN, 0),
+    };
+    Start {
+        number,
+        place: 0,
+        start,
+    }
 }

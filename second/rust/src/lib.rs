@@ -13,6 +13,7 @@ pub mod journal;
 pub mod kinds;
 pub mod listing;
 pub mod payload;
+pub mod record;
 pub mod refusal;
 pub mod session;
 pub mod settings;
@@ -21,6 +22,7 @@ pub mod views;
 pub mod writer;
 
 pub use kinds::body_octets;
+pub use record::Record;
 pub use refusal::Refusal;
 pub use session::Session;
 

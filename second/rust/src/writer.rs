@@ -23,10 +23,13 @@ fn row_kind(row: &[u16], is_last: bool, rate: u32) -> Result<Kind, u32> {
     Ok(kind)
 }
 
-/// Body octets and wire octets of the rows.
+/// Body octets and wire octets of rows that may stand in one payload.
 #[inline]
 fn totals(framing: Framing, rows: &[u16]) -> Result<(usize, usize), Refusal> {
     let frames = rows.len() / 2;
+    if frames > MAX_FRAMES {
+        return refuse(TOO_LONG, MAX_OCTETS);
+    }
     let (mut bodies, mut wire, mut rate) = (0, 0, framing.first_rate());
     for (index, row) in rows.chunks_exact(2).enumerate() {
         let kind = match row_kind(row, index + 1 == frames, rate) {
@@ -39,7 +42,15 @@ fn totals(framing: Framing, rows: &[u16]) -> Result<(usize, usize), Refusal> {
         bodies += kind.body_octets(row[1]);
         wire += kind.wire_octets(row[1]);
     }
+    if wire > MAX_OCTETS {
+        return refuse(TOO_LONG, MAX_OCTETS);
+    }
     Ok((bodies, wire))
+}
+
+/// The checks of rows alone.
+pub(crate) fn check_rows(rows: &[u16]) -> Result<(), Refusal> {
+    totals(Framing::No, rows).map(|_| ())
 }
 
 /// Kind and TC of rows that have passed.
@@ -96,13 +107,7 @@ pub fn write_in(
     if rows.len() % 2 == 1 {
         return refuse(ODD_ROWS, rows.len());
     }
-    if rows.len() / 2 > MAX_FRAMES {
-        return refuse(TOO_LONG, MAX_OCTETS);
-    }
     let (body_octets, wire_octets) = totals(framing, rows)?;
-    if wire_octets > MAX_OCTETS {
-        return refuse(TOO_LONG, MAX_OCTETS);
-    }
     if bodies.len() != body_octets {
         return refuse(WRONG_LENGTH, body_octets);
     }

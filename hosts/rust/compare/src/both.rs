@@ -376,3 +376,79 @@ pub fn journal_write_entry(
         |out| moult::journal::write_entry(ticks, source, payload.clone().shared(), out),
     )
 }
+
+/// An operation on a packet record.
+#[derive(Clone, Copy, Debug)]
+pub enum Operation {
+    Push(u16, u16),
+    Pop,
+    Replace(usize, u16, u16),
+}
+
+/// A packet record of the wrapper's, and the same through the C ABI.
+pub struct Record {
+    raw: raw::Record,
+    safe: moult::Record,
+}
+
+impl Record {
+    pub fn new() -> Record {
+        let record = Record {
+            raw: raw::record_empty(),
+            safe: moult::Record::default(),
+        };
+        assert_eq!(record.safe, moult::Record::new());
+        record.same_totals();
+        record
+    }
+
+    /// All of it.
+    pub fn all(&self) -> &raw::Record {
+        &self.raw
+    }
+
+    pub fn operate(&mut self, operation: Operation) -> Answer<()> {
+        let before = (self.raw, self.safe.clone());
+        let (raw, safe) = match operation {
+            Operation::Push(kind, tc) => (
+                raw::record_push(self.raw, kind, tc),
+                self.safe.push(kind.into(), tc),
+            ),
+            Operation::Pop => (raw::record_pop(self.raw), self.safe.pop()),
+            Operation::Replace(row, kind, tc) => (
+                raw::record_replace(self.raw, row, kind, tc),
+                self.safe.replace(row, kind.into(), tc),
+            ),
+        };
+        if safe.is_err() {
+            assert_eq!(raw.record, before.0, "refused");
+            assert_eq!(self.safe, before.1, "the wrapper's, refused");
+        }
+        self.raw = raw.record;
+        self.same_totals();
+        alike((raw.number, raw.place, ()), safe)
+    }
+
+    fn same_totals(&self) {
+        let raw = (
+            raw::record_rows(self.raw),
+            raw::record_octets(self.raw),
+            raw::record_ticks(self.raw) as usize,
+        );
+        let safe = (self.safe.rows(), self.safe.octets(), self.safe.ticks().0);
+        assert_eq!(raw, safe, "the wrapper's totals");
+        let members = (self.raw.rows, self.raw.octets, self.raw.ticks as usize);
+        assert_eq!(raw, members, "the record's own");
+    }
+
+    pub fn row(&self, row: usize) -> Answer<[u16; 2]> {
+        let raw = raw::record_row(self.raw, row);
+        let safe = self.safe.row(row).map(|(kind, tc)| [kind.number(), tc]);
+        alike((raw.number, raw.place, [raw.kind, raw.tc]), safe)
+    }
+
+    pub fn start(&self, row: usize) -> Answer<usize> {
+        let raw = raw::record_start(self.raw, row);
+        alike((raw.number, raw.place, raw.start), self.safe.start(row))
+    }
+}

@@ -14,6 +14,7 @@ mod prng;
 /// The C ABI as the wrapper declares it: the wrapper itself drops what its types have no place for.
 #[path = "../../src/ffi.rs"]
 mod raw;
+mod records;
 mod rfc8130;
 mod rows;
 mod sessions;

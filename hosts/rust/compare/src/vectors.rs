@@ -1,11 +1,11 @@
 //! The recorded cases of tests/vectors (MOULT_VECTORS names another folder): the library, through
 //! wrapper and C ABI, and the second implementation must both answer as recorded.
 
-use crate::both::{self, Answer};
+use crate::both::{self, Answer, Operation};
 use crate::guard::{Lent, number, octet};
 use crate::json::Json;
 use crate::prng::Prng;
-use crate::{journals, payloads, wanted, whole};
+use crate::{journals, payloads, records, wanted, whole};
 use second::{Session, fields, journal, listing, payload, settings, time, views, writer};
 use std::fmt::Debug;
 use std::fs;
@@ -274,6 +274,76 @@ fn entry_write(case: &Case, prng: &mut Prng) {
     case.is(wanted(second, out), &(answer, entry), "the second");
 }
 
+/// An operation such as ["replace", 0, 3, 0].
+fn operation(value: &Json) -> Option<Operation> {
+    let (name, numbers) = value.list()?.split_first()?;
+    Some(match (name.text()?, numbers) {
+        ("push", [kind, tc]) => Operation::Push(whole_number(kind)?, whole_number(tc)?),
+        ("pop", []) => Operation::Pop,
+        ("replace", [row, kind, tc]) => {
+            Operation::Replace(whole_number(row)?, whole_number(kind)?, whole_number(tc)?)
+        }
+        _ => return None,
+    })
+}
+
+fn operations(value: &Json) -> Option<Vec<Operation>> {
+    value.list()?.iter().map(operation).collect()
+}
+
+/// Which operations are refused, with number and place.
+fn refusals(value: &Json) -> Option<Vec<Vec<u16>>> {
+    value.list()?.iter().map(number_list).collect()
+}
+
+fn record(case: &Case, _: &mut Prng) {
+    let (mut record, mut second) = (both::Record::new(), second::Record::default());
+    let mut refused = [vec![], vec![]];
+    let operations = case.of(&case.values, "operations", operations);
+    for (i, operation) in operations.into_iter().enumerate() {
+        let answers = [
+            record.operate(operation),
+            whole(records::operate(&mut second, operation)),
+        ];
+        for (refused, (number, place, ())) in refused.iter_mut().zip(answers) {
+            if number != 0 {
+                refused.push(vec![i as u16, number as u16, place as u16]);
+            }
+        }
+    }
+    let [by_library, by_second] = refused;
+    let refusals = case.of(&case.values, "refusals", refusals);
+    case.is(by_library, &refusals, "the library");
+    case.is(by_second, &refusals, "the second");
+
+    let all = records::wanted(&second);
+    case.is(record.all(), &&all, "the library");
+    let rows = 2 * all.rows;
+    case.is(
+        all.numbers[..rows].to_vec(),
+        &case.numbers("rows"),
+        "the second",
+    );
+    case.is(
+        all.starts[..all.rows].to_vec(),
+        &case.numbers("starts"),
+        "the second",
+    );
+    let totals = (case.number("octets"), case.number("ticks"));
+    case.is((all.octets, all.ticks), &totals, "the second");
+
+    let asked = case.number("asked");
+    let row = case.numbers("row");
+    let row = [row.first(), row.get(1)].map(|number| number.copied().unwrap_or(0));
+    case.is(record.row(asked), &case.answer(row), "the library");
+    case.is(
+        record.start(asked),
+        &case.answer(case.number("start")),
+        "the library",
+    );
+    records::compare_row(&record, &second, asked);
+}
+
 /// The library has no listing: its program is held to these cases by itself.
 fn list(case: &Case, _: &mut Prng) {
     let lines = case.of(&case.values, "lines", Json::list);
@@ -301,6 +371,7 @@ fn run(case: &Case, prng: &mut Prng) {
         "list" => list(case, prng),
         "entry" => entry(case, prng),
         "entry_write" => entry_write(case, prng),
+        "record" => record(case, prng),
         other => panic!("{}:{}: no case: {other}", case.file.display(), case.line),
     }
 }

@@ -1,6 +1,8 @@
 //! The implementations that are measured, each at some places in memory: see places.sh.
 
-use second::abi::{Entry, Part, Reading, SettingsReading, Time, Writing};
+use second::abi::{
+    Entry, Part, Reading, Record, RecordChange, SettingsReading, Start, Time, Writing,
+};
 
 type CountFn = unsafe extern "C" fn(*const u8, usize) -> i32;
 type ReadFn = unsafe extern "C" fn(*const u8, usize, *mut u16, usize, *mut u8, usize) -> Reading;
@@ -15,6 +17,10 @@ type UnpackFn = unsafe extern "C" fn(u8, *const u8, usize, *mut u16, usize) -> W
 type PackFn = unsafe extern "C" fn(u8, *const u16, usize, *mut u8, usize) -> Writing;
 type EntryAtFn = unsafe extern "C" fn(*const u8, usize, usize) -> Entry;
 type WriteEntryFn = unsafe extern "C" fn(u64, u64, *const u8, usize, *mut u8, usize) -> Writing;
+type BodyOctetsFn = unsafe extern "C" fn(u16, u16) -> usize;
+type RecordEmptyFn = unsafe extern "C" fn() -> Record;
+type RecordPushFn = unsafe extern "C" fn(Record, u16, u16) -> RecordChange;
+type RecordStartFn = unsafe extern "C" fn(Record, usize) -> Start;
 
 /// One implementation at one place. The functions stand in the order that places.sh gives them.
 #[repr(C)]
@@ -32,9 +38,13 @@ pub struct Calls {
     pack: PackFn,
     journal_entry_at: EntryAtFn,
     journal_write_entry: WriteEntryFn,
+    body_octets: BodyOctetsFn,
+    record_empty: RecordEmptyFn,
+    record_push: RecordPushFn,
+    record_start: RecordStartFn,
 }
 
-// Each is called with the pointer and length of a slice that lives through the call.
+// Each that takes slices is called with the pointer and length of ones that live through the call.
 impl Calls {
     pub fn count(&self, payload: &[u8]) -> i32 {
         unsafe { (self.count)(payload.as_ptr(), payload.len()) }
@@ -119,6 +129,22 @@ impl Calls {
         let (out, out_n) = (out.as_mut_ptr(), out.len());
         let (payload, payload_n) = (payload.as_ptr(), payload.len());
         unsafe { (self.journal_write_entry)(ticks, source, payload, payload_n, out, out_n) }
+    }
+
+    pub fn body_octets(&self, kind: u16, tc: u16) -> usize {
+        unsafe { (self.body_octets)(kind, tc) }
+    }
+
+    pub fn record_empty(&self) -> Record {
+        unsafe { (self.record_empty)() }
+    }
+
+    pub fn record_push(&self, record: Record, kind: u16, tc: u16) -> RecordChange {
+        unsafe { (self.record_push)(record, kind, tc) }
+    }
+
+    pub fn record_start(&self, record: Record, row: usize) -> Start {
+        unsafe { (self.record_start)(record, row) }
     }
 }
 

@@ -6,6 +6,7 @@ mod inputs;
 mod journals;
 mod lent;
 mod lists;
+mod records;
 mod timing;
 
 use inputs::{Mix, Small, mode};
@@ -99,6 +100,11 @@ fn main() {
     let mut journal = Table::new(word);
     if journals::is_wanted(&journal) {
         journals::measure(&mut journal);
+    }
+    let mut kept = Table::new(word);
+    records::measure(&mut kept);
+    if !kept.is_empty() {
+        records::print(&kept);
     }
     let mut listings = Table::new(word);
     if mixes.iter().any(|mix| listings.has("listing", mix.name)) {

@@ -1,0 +1,5 @@
+pub mod Afresh
+pub mod Operations
+pub mod Promise
+pub mod Stages
+pub mod Runs
