@@ -1,4 +1,6 @@
 // Time: ticks of 1/8000 second on the clock, milliseconds in settings. The two are types of their own and never mix.
+#![tactic(auto)]
+
 ghost use Rattle.std.specs.Prelude.{◌≡◌};
 ghost use Rattle.wire.specs.Walk.{read_of};
 ghost use Rattle.clock.specs.Time.{time_of, PacketTime, Ptime, unknown_ptime};
@@ -9,22 +11,22 @@ use wire::{Framing, KnownFraming, Session, Summary, Walked};
 const MOST_FRAMES: usize = 200;
 
 // Ticks of 1/8000 second.
-#[derive(Drop)]
+#[derive(Clone, Copy)]
 pub struct Ticks(pub usize);
 
 // Milliseconds.
-#[derive(Drop)]
+#[derive(Clone, Copy)]
 pub struct Millis(pub usize);
 
 // What a packet lasts, or why its payload was refused: never 0 ticks for a payload that could not be split.
-#[derive(Drop)]
+#[derive(Clone, Copy)]
 pub enum PacketTicks {
     Lasts(Ticks),
     Refused(Refusal),
 }
 
 // The ptime of some frames, or the refusal.
-#[derive(Drop)]
+#[derive(Clone, Copy)]
 pub enum PacketMillis {
     Lasts(Millis),
     Refused(Refusal),

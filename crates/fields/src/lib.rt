@@ -1,4 +1,6 @@
 // The fields of a 600 bps frame's body, modes 1 to 3: one table of widths, one unpacker, one packer (docs/FORMAT.md, "Fields").
+#![tactic(auto)]
+
 ghost use Rattle.std.specs.Prelude.{◌≡◌, true, [], ◌∷◌, reverse, ℕ, ◌+◌, ◌<◌, length, get_or};
 ghost use Rattle.fields.specs.Bits.{digits, spelled, bits_of, octets_of};
 ghost use Rattle.fields.specs.Table.{fields_of, field_bits, body_of, first_large};
@@ -43,14 +45,14 @@ const REVERSED_HALVES: [u8; 16] = [0, 8, 4, 12, 2, 10, 6, 14, 1, 9, 5, 13, 3, 11
 const LOWEST_BITS: [u16; 10] = [0, 1, 3, 7, 15, 31, 63, 127, 255, 511];
 
 // The number of fields that were written, or why none was.
-#[derive(Drop)]
+#[derive(Clone, Copy)]
 pub enum Unpacked {
     Fields(usize),
     Refused(Refusal),
 }
 
 // The number of octets that were written, or why none was.
-#[derive(Drop)]
+#[derive(Clone, Copy)]
 pub enum Packed {
     Octets(usize),
     Refused(Refusal),

@@ -1,4 +1,6 @@
 // The setting text: the parameters of an SDP fmtp attribute, read and written (docs/FORMAT.md, "Setting text").
+#![tactic(auto)]
+
 mod lengths; // lengths.rt: the octets that numbers take in a text
 mod read_text; // read_text.rt: the steps of the reader
 mod validity; // validity.rt: which values are settings
@@ -14,7 +16,7 @@ use write_text::{put_settings, text_len};
 
 // One to three different rates, the preferred one first, unused places 0; and the most augmentation octets that are wanted of a
 // frame. A value of this type need not be settings.
-#[derive(Drop)]
+#[derive(Clone, Copy)]
 pub struct Settings {
     pub first: u16,
     pub second: u16,
@@ -23,14 +25,14 @@ pub struct Settings {
 }
 
 // What a text is read as.
-#[derive(Drop)]
+#[derive(Clone, Copy)]
 pub enum Parsed {
     Accepted(Settings),
     Refused(Refusal),
 }
 
 // The octets written, or why nothing was.
-#[derive(Drop)]
+#[derive(Clone, Copy)]
 pub enum Written {
     Octets(usize),
     Refused(Refusal),

@@ -1,4 +1,6 @@
 // The journal: a run of entries, each of ticks, source number, payload length and payload (docs/FORMAT.md, "Journal").
+#![tactic(auto)]
+
 ghost use Rattle.std.specs.Prelude.{◌≡◌, ◌++◌, ◌≤◌, length, drop};
 ghost use Rattle.journal.specs.Entry.{entry_octets, Legal};
 ghost use Rattle.journal.specs.Reading.{behind_ticks, behind_source, body_then};
@@ -18,7 +20,7 @@ const MOST_OCTETS: usize = 1400;
 const MOST_LENGTH: u64 = 1400;
 
 // What was written: so many octets; or nothing.
-#[derive(Drop)]
+#[derive(Clone, Copy)]
 pub enum Written {
     Octets(usize),
     Refused(Refusal),
@@ -26,7 +28,7 @@ pub enum Written {
 
 // What stands at an index of a journal: an entry, with the place of its payload, behind which the next entry begins; the end;
 // no entry.
-#[derive(Drop)]
+#[derive(Clone, Copy)]
 pub enum Standing {
     Entry {
         ticks: u64,

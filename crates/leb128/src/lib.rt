@@ -1,11 +1,13 @@
 // Numbers in groups of seven bits, low group first, 128 meaning "more", shortest form (unsigned LEB128): one octet a step.
+#![tactic(auto)]
+
 ghost use Rattle.std.specs.Prelude.{◌≡◌, ◌+◌, ◌^◌, ◌≤◌, ◌<◌, length};
 ghost use Rattle.octets.specs.Put.{put};
 ghost use Rattle.leb128.specs.Number.{Partial, more_groups, last_group, Steps, Finds, part_at};
 ghost use Rattle.leb128.specs.Writing.{octets_of, with_number, number_end};
 
 // What an octet makes of the groups before it: a value so far, which more groups follow; the number; no number.
-#[derive(Drop)]
+#[derive(Clone, Copy)]
 pub enum Group {
     More(u64),
     Last(u64),
@@ -86,7 +88,7 @@ pub fn step(value: u64, groups: u8, octet: u8, most: u8, bound: u64) -> Group
 
 // What the octets from an index on make of the groups before them: a number, with the index behind it; more groups, which
 // others are to follow; no number.
-#[derive(Drop)]
+#[derive(Clone, Copy)]
 enum Part {
     Number(u64, usize),
     More(u64, u8),
@@ -125,7 +127,7 @@ fn number_from(
 }
 
 // What stands at an index of some octets: a number, with the index behind it; too few octets; no number.
-#[derive(Drop)]
+#[derive(Clone, Copy)]
 pub enum Found {
     Number(u64, usize),
     Short,

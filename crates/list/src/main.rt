@@ -1,12 +1,14 @@
 // Lists recordings of payloads. Each file that an argument names is a recording of its own, and so is standard input, which `-` names and
 // which is listed where no argument is given. Before each of several listings a line `==> FILE <==` names it. A file that cannot be opened
 // or read is said on standard error, no last line follows, and the next one is listed. Where standard output takes no more, the run ends.
+#![tactic(auto)]
+
 use libc::{STDERR_FILENO, STDIN_FILENO, STDOUT_FILENO};
 use listing::{Phase, State};
 
 // What reading a block came to: it is listed, and the recording goes on; the recording is at its end, or behind a bad length; the read
 // failed; standard output takes no more.
-#[derive(Drop)]
+#[derive(Clone, Copy)]
 enum Read {
     More(State),
     End(State),

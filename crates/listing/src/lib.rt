@@ -1,5 +1,7 @@
 // The listing: payloads in, each behind its length; a line each out. An input is taken in parts, cut anywhere. A state and the octets of a payload
 // that is not whole yet, in a buffer that the caller lends, are carried from one part to the next.
+#![tactic(auto)]
+
 ghost use Rattle.std.specs.Prelude.{◌≡◌, [], ◌∷◌, ◌+◌, ◌≤◌, ◌<◌, min, length};
 ghost use Rattle.std.proofs.Math.Option.{some};
 ghost use Rattle.listing.specs.Line.{decimal, numbered, line_with, payload_line, last_line};
@@ -25,7 +27,7 @@ const LAST_LINE_ROOM: usize = 25;
 
 // Where in the input: in a length, behind groups that came to a value; in a payload, with `left` octets to come behind the first `have`, which
 // the payload's buffer holds; behind a bad length, where nothing is listed any more.
-#[derive(Drop)]
+#[derive(Clone, Copy)]
 pub enum Phase {
     Length { value: u64, groups: u8 },
     Payload { left: usize, have: usize },
@@ -33,28 +35,28 @@ pub enum Phase {
 }
 
 // What is carried from one part of the input to the next: the payload lines so far, and where the part ended.
-#[derive(Drop)]
+#[derive(Clone, Copy)]
 pub struct State {
     pub lines: u64,
     pub phase: Phase,
 }
 
 // What a call did: the next state, the octets of input taken, and of output written.
-#[derive(Drop)]
+#[derive(Clone, Copy)]
 pub struct Progress {
     pub state: State,
     pub taken: usize,
     pub written: usize,
 }
 
-#[derive(Drop)]
+#[derive(Clone, Copy)]
 pub enum Listed {
     Part(Progress),
     Refused(Refusal),
 }
 
 // The octets of the last line, or the refusal.
-#[derive(Drop)]
+#[derive(Clone, Copy)]
 pub enum Closed {
     Line(usize),
     Refused(Refusal),

@@ -1,4 +1,6 @@
 // Writes a listing to standard output, for the programs that list. Whether the system takes what is written no promise can say.
+#![tactic(auto)]
+
 ghost use Rattle.std.specs.Prelude.{◌≡◌, ◌≤◌, length};
 ghost use Rattle.refusal.specs.Report.{filled};
 ghost use Rattle.listing.specs.Listing.{closing_line};
@@ -9,7 +11,7 @@ use libc::STDOUT_FILENO;
 use listing::{Closed, Listed, State};
 
 // The state behind some input, and whether all of its lines are written.
-#[derive(Drop)]
+#[derive(Clone, Copy)]
 pub struct Block {
     pub state: State,
     pub is_written: bool,

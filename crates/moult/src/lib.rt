@@ -1,4 +1,6 @@
 // The library as a C host calls it. A slice is a pointer and a length; include/moult.h declares each function.
+#![tactic(auto)]
+
 ghost use Rattle.std.specs.Prelude.{◌≡◌, [], length};
 ghost use Rattle.std.proofs.Math.Option.{some};
 ghost use Rattle.wire.specs.Frame.{kind_of, sum_of, ticks, wire_octets};
@@ -27,7 +29,7 @@ const VERSION: u32 = 100;
 
 // A reading: the refusal's number (0 where accepted) and place; rows, body octets, the rate of the coder frames, and ticks.
 #[repr(C)]
-#[derive(Drop)]
+#[derive(Clone, Copy)]
 pub struct MoultReading {
     pub number: u32,
     pub rate: u32,
@@ -39,7 +41,7 @@ pub struct MoultReading {
 
 // A packet's time: number and place, and ticks of 1/8000 second.
 #[repr(C)]
-#[derive(Drop)]
+#[derive(Clone, Copy)]
 pub struct MoultTicks {
     pub number: u32,
     pub place: usize,
@@ -48,7 +50,7 @@ pub struct MoultTicks {
 
 // A ptime: number and place, and milliseconds.
 #[repr(C)]
-#[derive(Drop)]
+#[derive(Clone, Copy)]
 pub struct MoultMillis {
     pub number: u32,
     pub place: usize,
@@ -57,7 +59,7 @@ pub struct MoultMillis {
 
 // A part: of the payload, or (where `stand_in` is 1) of the stand-in.
 #[repr(C)]
-#[derive(Drop)]
+#[derive(Clone, Copy)]
 pub struct MoultPart {
     pub stand_in: u32,
     pub start: usize,
@@ -66,7 +68,7 @@ pub struct MoultPart {
 
 // A writing: number and place, and the octets (or, of unpacking, the fields) written.
 #[repr(C)]
-#[derive(Drop)]
+#[derive(Clone, Copy)]
 pub struct MoultWriting {
     pub number: u32,
     pub place: usize,
@@ -75,7 +77,7 @@ pub struct MoultWriting {
 
 // Settings: one to three rates, the preferred one first, unused places 0; and tcmax.
 #[repr(C)]
-#[derive(Drop)]
+#[derive(Clone, Copy)]
 pub struct MoultSettings {
     pub first: u16,
     pub second: u16,
@@ -85,7 +87,7 @@ pub struct MoultSettings {
 
 // A setting text that was read: number and place, and its settings.
 #[repr(C)]
-#[derive(Drop)]
+#[derive(Clone, Copy)]
 pub struct MoultParsed {
     pub number: u32,
     pub place: usize,
@@ -95,7 +97,7 @@ pub struct MoultParsed {
 // What stands at an index of a journal: number and place; how many entries, 1 or 0; of this entry its ticks and source, where its payload
 // starts, and where the next entry begins.
 #[repr(C)]
-#[derive(Drop)]
+#[derive(Clone, Copy)]
 pub struct MoultEntry {
     pub number: u32,
     pub entries: u32,
@@ -108,7 +110,7 @@ pub struct MoultEntry {
 
 // What an operation on a packet record came to: number and place, and the record, unchanged where refused.
 #[repr(C)]
-#[derive(Drop)]
+#[derive(Clone, Copy)]
 pub struct MoultChange {
     pub number: u32,
     pub place: usize,
@@ -117,7 +119,7 @@ pub struct MoultChange {
 
 // A row of a packet record: number and place, kind and TC.
 #[repr(C)]
-#[derive(Drop)]
+#[derive(Clone, Copy)]
 pub struct MoultRow {
     pub number: u32,
     pub kind: u16,
@@ -127,7 +129,7 @@ pub struct MoultRow {
 
 // Where a row of a packet record starts on the wire: number and place, and the index.
 #[repr(C)]
-#[derive(Drop)]
+#[derive(Clone, Copy)]
 pub struct MoultStart {
     pub number: u32,
     pub place: usize,

@@ -1,4 +1,6 @@
 // Reads payloads: the rows and bodies of a payload's frames go into lent lists, or the payload is refused and the lists stay as they were.
+#![tactic(auto)]
+
 ghost use Rattle.std.specs.Prelude.{◌≡◌, [], ◌∷◌, ◌+◌, ◌*◌, ◌≤◌, length};
 ghost use Rattle.octets.specs.Put.{put};
 ghost use Rattle.reader.specs.Filling.{body_at, BodyFits, Fillable, CameTo};
@@ -9,7 +11,7 @@ use refusal::Refusal;
 use wire::{Ending, Framing, KnownFraming, Session, Shape, Summary, Walked};
 
 // What was handed out: frames, octets of their bodies, their rate and ticks; or the refusal.
-#[derive(Drop)]
+#[derive(Clone, Copy)]
 pub enum Reading {
     Read(Summary),
     Refused(Refusal),

@@ -1,5 +1,7 @@
 // The packet record: rows, each row's start on the wire, and the octets and ticks of them all, kept while rows are taken, dropped and
 // replaced, so that none is added up when it is asked for. A record goes in by value and comes back.
+#![tactic(auto)]
+
 ghost use Rattle.std.specs.Prelude.{◌≡◌, cond, List, [], ◌∷◌, ◌++◌, ◌+◌, ◌-◌, ◌*◌, ◌≤◌, ◌<◌, ltb, eqb, length, get_or, set, take};
 ghost use Rattle.refusal.specs.Report.{refusal};
 ghost use Rattle.wire.specs.Frame.{kind_of, sum_of, ticks, wire_octets};
@@ -25,7 +27,7 @@ const MOST_TICKS: u32 = 144000;
 // A packet's rows: kind and TC of each, as rows are lent; where each starts on the wire; how many there are; the octets and the ticks of
 // them all. Unused places are 0.
 #[repr(C)]
-#[derive(Drop)]
+#[derive(Clone, Copy)]
 pub struct Record {
     pub numbers: [u16; 400],
     pub starts: [u16; 200],
@@ -35,35 +37,35 @@ pub struct Record {
 }
 
 // What an operation answers: the refusal, of number 0 and place 0 where it is accepted, and the record, unchanged where it is refused.
-#[derive(Drop)]
+#[derive(Clone, Copy)]
 pub struct Change {
     pub refusal: Refusal,
     pub after: Record,
 }
 
 // A row's two numbers.
-#[derive(Drop)]
+#[derive(Clone, Copy)]
 pub struct RowNumbers {
     pub kind: u16,
     pub tc: u16,
 }
 
 // The row asked for, or 12 where it is missing.
-#[derive(Drop)]
+#[derive(Clone, Copy)]
 pub enum RowAsked {
     Is(RowNumbers),
     Refused(Refusal),
 }
 
 // Where the row asked for starts on the wire, or 12 where it is missing.
-#[derive(Drop)]
+#[derive(Clone, Copy)]
 pub enum StartAsked {
     At(usize),
     Refused(Refusal),
 }
 
 // What two numbers come to behind the rows of a record: a row, or the refusal.
-#[derive(Drop)]
+#[derive(Clone, Copy)]
 enum Next {
     Is(Row),
     Refused(Refusal),

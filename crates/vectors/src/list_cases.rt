@@ -9,7 +9,7 @@ use listing::{Closed, Listed, Progress, State};
 const LINE_ROOM: usize = 71;
 
 // The listing behind a part of the input, and how many octets of the part were taken.
-#[derive(Drop)]
+#[derive(Clone, Copy)]
 struct Part {
     state: State,
     taken: usize,

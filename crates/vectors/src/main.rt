@@ -2,6 +2,8 @@
 // file stdout beside src/ is made from tests/cases, which come from docs/FORMAT.md and not from this library.
 //
 // A line that starts with # is only written. Any other that is no case, or asks for more than there is here, is malformed.
+#![tactic(auto)]
+
 ghost use Rattle.std.specs.Prelude.{◌+◌, ◌≤◌, ◌<◌, length};
 
 mod fields_cases;

@@ -3,7 +3,7 @@ use crate::{print, read_cases, view_cases, write_cases};
 use wire::Session;
 
 // The session of a case, if its numbers give one.
-#[derive(Drop)]
+#[derive(Clone, Copy)]
 enum InFront {
     Nothing,
     In(Session),

@@ -3,7 +3,7 @@ ghost use Rattle.std.specs.Prelude.{◌≤◌, ◌<◌, length};
 
 // How values are written: as decimal numbers, as octets of two hexadecimal digits, or as characters, of which one may be `\x`
 // and two such digits.
-#[derive(Drop)]
+#[derive(Clone, Copy)]
 pub(crate) enum Form {
     Numbers,
     Octets,
@@ -12,7 +12,7 @@ pub(crate) enum Form {
 
 // The word that goes on with the next character: none, a number, the number behind a `*`, the second digit of an octet, or
 // what stands behind a `\`.
-#[derive(Drop)]
+#[derive(Clone, Copy)]
 enum Word {
     Nothing,
     Number,
@@ -23,7 +23,7 @@ enum Word {
 
 // How far a text is read: the values so far, how many of the last ones a `*` repeats, the values in front of the last `(`, the
 // word that goes on, and its value so far.
-#[derive(Drop)]
+#[derive(Clone, Copy)]
 struct Scan {
     count: usize,
     last: usize,

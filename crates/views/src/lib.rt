@@ -1,4 +1,6 @@
 // Frames shown in place: where a row's frame stands in a payload, and parts of the lent payload itself, never copies.
+#![tactic(auto)]
+
 ghost use Rattle.std.specs.Prelude.{◌≡◌, ◌+◌, ◌≤◌, ◌<◌, length};
 ghost use Rattle.wire.specs.Walk.{read_of};
 ghost use Rattle.octets.specs.Part.{part};
@@ -9,7 +11,7 @@ ghost use Rattle.views.specs.declared.Location.TheVariants.{At};
 use wire::{Ending, Framing, KnownFraming, Session, Shape, Walked};
 
 // A part of the payload: the index of its first octet, and its octets.
-#[derive(Drop)]
+#[derive(Clone, Copy)]
 pub struct Span {
     pub start: usize,
     pub length: usize,
@@ -17,7 +19,7 @@ pub struct Span {
 
 // Where a row's frame stands in the payload, and its augmentation, which is empty at the payload's start where its kind has none;
 // missing where the payload is refused or has no such row.
-#[derive(Drop)]
+#[derive(Clone, Copy)]
 pub enum Location {
     At { frame: Span, augmentation: Span },
     Missing,

@@ -1,5 +1,7 @@
 // The frames of a payload on the wire: the table of kinds, the frame that octets end in, and the walk from a payload's end to its
 // front, which says what the payload holds or why it is refused.
+#![tactic(auto)]
+
 ghost use Rattle.std.specs.Prelude.{◌≡◌, length, ◌+◌, ◌≤◌, ◌<◌};
 ghost use Rattle.wire.specs.Frame.{plain_entry, augmented_entry, table, agreed_rate, entry_in, count_in, ticks_of_rate};
 ghost use Rattle.wire.specs.Walk.{low_kind, named, counted, whole, beside, last_frame, read_of};
@@ -12,14 +14,14 @@ use refusal::Refusal;
 const MOST_OCTETS: usize = 1400;
 
 // What a session says of the end-to-end framing bit: not agreed, or agreed with a rate, where any number may stand.
-#[derive(Drop)]
+#[derive(Clone, Copy)]
 pub enum Session {
     NotAgreed,
     Agreed(u32),
 }
 
 // The legal sessions: without a framing bit, or with one in frames of 2400 or 600 bps.
-#[derive(Drop)]
+#[derive(Clone, Copy)]
 pub enum Framing {
     Unframed,
     Framed2400,
@@ -27,14 +29,14 @@ pub enum Framing {
 }
 
 // The framing of a session, if it is a legal one.
-#[derive(Drop)]
+#[derive(Clone, Copy)]
 pub enum KnownFraming {
     Unknown,
     Is(Framing),
 }
 
 // The kinds of frames.
-#[derive(Drop)]
+#[derive(Clone, Copy)]
 pub enum Kind {
     Bps2400,
     Bps1200,
@@ -45,14 +47,14 @@ pub enum Kind {
 }
 
 // The kind of a number in a row, if it is one.
-#[derive(Drop)]
+#[derive(Clone, Copy)]
 pub enum Known {
     Unknown,
     Is(Kind),
 }
 
 // How a frame's TC is counted behind its body: not at all; in one octet where that is long enough, else in two; always in two.
-#[derive(Drop)]
+#[derive(Clone, Copy)]
 pub enum Counting {
     Uncounted,
     ShortOrLong,
@@ -61,7 +63,7 @@ pub enum Counting {
 
 // A kind's numbers: its number in a row; the octets of its base, the rate code bits in their last one and the most that the body has
 // there; its rate (0 of comfort noise); the least and the most TC; how that is counted.
-#[derive(Drop)]
+#[derive(Clone, Copy)]
 pub struct Entry {
     pub number: u16,
     pub octets: usize,
@@ -74,14 +76,14 @@ pub struct Entry {
 }
 
 // A frame's kind and TC.
-#[derive(Drop)]
+#[derive(Clone, Copy)]
 pub struct Row {
     pub kind: Kind,
     pub tc: u16,
 }
 
 // A frame's numbers: its kind's, its TC, and the octets of its count, its body, and all that stands on the wire.
-#[derive(Drop)]
+#[derive(Clone, Copy)]
 pub struct Shape {
     pub entry: Entry,
     pub tc: usize,
@@ -91,21 +93,21 @@ pub struct Shape {
 }
 
 // What unread octets name by their end: a refusal's number, or a frame's row.
-#[derive(Drop)]
+#[derive(Clone, Copy)]
 pub enum Ending {
     Refused(u8),
     Names(Row),
 }
 
 // What the walk's step comes to: a refusal's number, or the frame that it goes over.
-#[derive(Drop)]
+#[derive(Clone, Copy)]
 enum Step {
     Refused(u8),
     Over(Shape),
 }
 
 // What a payload holds: frames, octets of their bodies, the rate of its coder frames (0 where there are none), ticks.
-#[derive(Drop)]
+#[derive(Clone, Copy)]
 pub struct Summary {
     pub frames: usize,
     pub octets: usize,
@@ -114,7 +116,7 @@ pub struct Summary {
 }
 
 // An empty payload is whole and holds no frames; a refused one is the other case.
-#[derive(Drop)]
+#[derive(Clone, Copy)]
 pub enum Walked {
     Whole(Summary),
     Refused(Refusal),

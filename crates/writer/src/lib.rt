@@ -1,5 +1,7 @@
 // The payload writer, and its checks of rows alone, which a record of rows uses too. What a kind is made of stands in wire's table:
 // no kind is named here.
+#![tactic(auto)]
+
 ghost use Rattle.std.specs.Prelude.{◌≡◌, List, [], ◌+◌, ◌-◌, ◌*◌, ◌≤◌, ◌<◌, length, get_or};
 ghost use Rattle.std.proofs.Math.Option.{some};
 ghost use Rattle.std.proofs.Math.Seq.{paste};
@@ -20,14 +22,14 @@ const MOST_OCTETS: usize = 1400;
 const MOST_ROWS: usize = 200;
 
 // What the two numbers of a row come to: a refusal's number, or the row.
-#[derive(Drop)]
+#[derive(Clone, Copy)]
 enum Checked {
     Refused(u8),
     Passes(Row),
 }
 
 // Rows that are in order: how many, the octets of their bodies, and their octets on the wire.
-#[derive(Drop)]
+#[derive(Clone, Copy)]
 pub struct Totals {
     pub rows: usize,
     pub bodies: usize,
@@ -35,28 +37,28 @@ pub struct Totals {
 }
 
 // What the checks of rows alone answer.
-#[derive(Drop)]
+#[derive(Clone, Copy)]
 pub enum RowCheck {
     Sound(Totals),
     Refused(Refusal),
 }
 
 // What the writer answers: how many octets are written, or the refusal.
-#[derive(Drop)]
+#[derive(Clone, Copy)]
 pub enum Writing {
     Written(usize),
     Refused(Refusal),
 }
 
 // Where the first bad body end stands, if there is one.
-#[derive(Drop)]
+#[derive(Clone, Copy)]
 enum BadEnd {
     At(usize),
     Nowhere,
 }
 
 // Where the next body and the next frame start.
-#[derive(Drop)]
+#[derive(Clone, Copy)]
 struct Starts {
     body: usize,
     frame: usize,
