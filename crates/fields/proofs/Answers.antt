@@ -4,7 +4,7 @@ use mathlib.Core.Bool.{Bool, true, false, cond, not}
 use mathlib.Core.List.{List, ◌++◌}
 use Prim.Native.Nat.{ℕ, suc, ◌≤◌, ◌<◌}
 use native.Mathlib.Omega.{arith}
-use borrow.Author.Tests.{lt-ltb, le-ltb, eq-eqb, ne_eqb, not-true, not-false, eqb-true, ltb-false}
+use borrow.Author.Tests.{lt-ltb, le-ltb, eq-eqb, ne_eqb, not-false, eqb-true, ltb-false}
 use lib.Dec.{eqb, ltb}
 use lib.ListN.{length, get_or, drop}
 use Rattle.refusal.specs.Numbers.{reserved_bits, numbers_too_short, octets_too_short, wrong_length, wrong_mode, field_too_large}
@@ -14,13 +14,6 @@ use Rattle.fields.specs.declared.Packed.TheVariants.{Octets, Refused as NotPacke
 use Rattle.fields.specs.Table.{fields_of, body_of, first_large}
 use Rattle.fields.specs.Modes.{is_mode, table_of, count_of}
 use Rattle.fields.specs.Answers.{refused, unpacking, packing, Unpacks, Packs}
-
--- the code's test of a mode
-pub no_mode : (mode : ℕ) {b : Bool} → b ≡ is_mode mode → not b ≡ true → is_mode mode ≡ false
-no_mode mode {b} e h = sym e ∙ not-true b h
-
-pub a_mode : (mode : ℕ) {b : Bool} → b ≡ is_mode mode → not b ≡ false → is_mode mode ≡ true
-a_mode mode {b} e h = sym e ∙ not-false b h
 
 -- what is accepted is written in front of what the buffer held
 pub accepted_fills : {report : Report ℕ} (n : ℕ) (written lent : List ℕ) → report ≡ accepted n → filled report written lent ≡ written ++ drop n lent

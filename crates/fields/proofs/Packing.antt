@@ -12,12 +12,12 @@ use lib.Dec.{ltb}
 use lib.ListN.{length, get_or, set, take, drop, length-append, drop_of_length-le}
 use lib.Arith.{digits_lt}
 use lib.Pow.{pow_pos, pow-add, pow_mono, shl_exact}
-use lib.Seq.{drop-cons, take_all}
+use lib.Seq.{drop-cons}
 use Rattle.fields.specs.Bits.{digits, spelled, octets_of}
 use Rattle.fields.specs.Table.{Table, field_bits, placed, body_of, first_large, run}
 use Rattle.fields.specs.RoundTrip.{Fitting}
 use Rattle.fields.proofs.Digits.{length_digits, digits-part, digits_mod, digits-spelled, spelled-append, spelled-digits, spelled_lt}
-use Rattle.fields.proofs.Filled.{Filled, filled_start, filled_step, filled_end}
+use Rattle.fields.proofs.Filled.{Filled, filled_step, filled_end}
 use Rattle.fields.proofs.Octets.{length_octets, octet_at}
 use Rattle.fields.proofs.Placed.{placed-run}
 use Rattle.fields.proofs.RoundTrip.{zeros, packed_bits}
@@ -31,9 +31,6 @@ pub record Seeking (table : Table) (fields : List ℕ) (i : ℕ) : Type 0 where
   pub ahead : i + first_large (drop i table) (drop i fields) ≡ first_large table fields
 
 module _ (table : Table) (fields : List ℕ) where
-  pub seeking_start : Seeking table fields 0
-  seeking_start = record { ahead = omega arith }
-
   module _ (i : ℕ) (h : Seeking table fields i) (size : length fields ≡ length table) where
     module _ (l : i < length table) {w : ℕ} (e : w ≡ length (get_or table i [])) where
       next : (b : Bool) → ltb (get_or fields i 0) (2 ^ w) ≡ b → i + cond b (suc (first_large (drop (suc i) table) (drop (suc i) fields))) 0 ≡ first_large table fields
@@ -103,9 +100,6 @@ module _ (table : Table) (fields : List ℕ) where
         small = rw (shifted, add-one i, front_step table i l, sym e) small;
       }
 
-    pub joined_end : length table ≤ i → word ≡ spelled (field_bits table fields)
-    joined_end l = h.spells ∙ ap spelled (rw (take_all i table l, take_all i fields (omega (arith, fit.as_many))))
-
 -- ---- the octets of a word
 
 -- the octets that were passed are put; left bits are below those that were passed
@@ -114,9 +108,6 @@ pub record OctetsPut (word : ℕ) (old now : List ℕ) (left i : ℕ) : Type 0 w
   pub fills : Filled (octets_of 7 (digits 56 word)) old now i
 
 module _ (word : ℕ) (old : List ℕ) where
-  pub put_start : OctetsPut word old old 56 0
-  put_start = record { below = refl; fills = filled_start (octets_of 7 (digits 56 word)) old }
-
   module _ (now : List ℕ) (left i : ℕ) (h : OctetsPut word old now left i) (size : length old ≡ 7) where
     same : length (octets_of 7 (digits 56 word)) ≡ length old
     same = length_octets 7 (digits 56 word) ∙ sym size

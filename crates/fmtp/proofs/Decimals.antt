@@ -1,13 +1,12 @@
 -- Decimal numbers: their digits, the loop that counts them, and that reading a number's text gives the number and only its text does.
 use mathlib.Core.Path.{◌≡◌, refl, sym, ap, ◌∙◌}
-use mathlib.Core.Bool.{Bool, true, false, cond, ◌&&◌}
+use mathlib.Core.Bool.{Bool, true, false, ◌&&◌}
 use mathlib.Core.List.{List, [], ◌∷◌, ◌++◌, append-nil}
 use Prim.Native.Nat.{ℕ, zero, suc, ◌+◌, ◌-◌, ◌*◌, ◌/◌, ◌%◌, ◌≤◌, ◌<◌}
 use native.Mathlib.Omega.{arith}
-use native.Mathlib.Numerals.{add-one}
-use lib.Dec.{eqb, ltb}
-use lib.ListN.{length, get_or, drop, length-drop, length-append}
-use lib.Seq.{drop-cons, drop-length, drop_at, append_snoc}
+use lib.Dec.{ltb}
+use lib.ListN.{length, drop, length-drop, length-append}
+use lib.Seq.{drop-length, drop_at, append_snoc}
 use native.Mathlib.Decide.{ℕ_discrete}
 use borrow.Author.Tests.{lt-ltb, le-ltb, eq-eqb, ne_eqb}
 use mathlib.Core.Logic.{◌⊎◌, inl, inr}
@@ -138,38 +137,6 @@ pub record Counted (t : List ℕ) (n v i : ℕ) : Type 0 where
 pub counted_start : (t : List ℕ) (at : ℕ) → at ≤ length t → Counted t (number_at (drop at t)) 0 at
 unfolding number_at
 counted_start t at l = record { upto = l; small = omega arith; rest = refl }
-
-module _ (t : List ℕ) (n v i : ℕ) (h : Counted t n v i) where
-  module _ (x : ℕ) (lt : i < length t) (e : x ≡ get_or t i 0) where
-    next : cond (ltb x 48) v (cond (ltb 57 x) v (cond (eqb (v * 10 + (x - 48)) 0) 0 (cond (ltb 255 (v * 10 + (x - 48))) 0 (count_on (v * 10 + (x - 48)) (drop (suc i) t))))) ≡ n
-    next = rw e (rw (drop-cons t i 0 lt) at h.rest)
-
-    pub counted_below : x < 48 → v ≡ n
-    counted_below l = simp (lt-ltb x 48 l) at next
-
-    module _ (l : 48 ≤ x) where
-      pub counted_above : 57 < x → v ≡ n
-      counted_above m = simp (le-ltb x 48 l, lt-ltb 57 x m) at next
-
-      module _ (m : x ≤ 57) where
-        pub counted-zero : v * 10 + (x - 48) ≡ 0 → 0 ≡ n
-        counted-zero z = simp (le-ltb x 48 l, le-ltb 57 x m, eq-eqb (v * 10 + (x - 48)) 0 z) at next
-
-        module _ (z : v * 10 + (x - 48) ≡ 0 → ⊥) where
-          pub counted-over : 255 < v * 10 + (x - 48) → 0 ≡ n
-          counted-over o = simp (le-ltb x 48 l, le-ltb 57 x m, ne_eqb (v * 10 + (x - 48)) 0 z, lt-ltb 255 (v * 10 + (x - 48)) o) at next
-
-          pub counted_next : v * 10 + (x - 48) ≤ 255 → Counted t n (v * 10 + (x - 48)) (i + 1)
-          counted_next o = record {
-            upto = omega arith;
-            small = o;
-            rest = rw (add-one i) (simp (le-ltb x 48 l, le-ltb 57 x m, ne_eqb (v * 10 + (x - 48)) 0 z, le-ltb 255 (v * 10 + (x - 48)) o) at next);
-          }
-
-  pub counted_end : length t ≤ i → v ≡ n
-  counted_end l =
-      let e : i ≡ length t = omega (arith, h.upto) in
-      rw (e, drop-length t) at h.rest
 
 -- ---- reading a number's text gives the number
 

@@ -256,7 +256,7 @@ one_item_lem : {t : List ℕ} {i : Item} → ItemText t i → meaning t ≡ comb
 unfolding meaning bind
 one_item_lem {t} {i} k =
     let w = item_read k in
-    simp (items_some t w.some-text, cut_free semicolon t w.free, w.read)
+    simp (items_some t w.some_text, cut_free semicolon t w.free, w.read)
 
 two_items_lem : {t u : List ℕ} {i j : Item} → ItemText t i → ItemText u j → meaning (t ++ (semicolon ∷ u)) ≡ combined (i ∷ j ∷ [])
 unfolding meaning bind

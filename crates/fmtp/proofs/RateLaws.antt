@@ -172,6 +172,11 @@ pub record Taken (t : List ℕ) (at a k₁ b k₂ c : ℕ) : Type 0 where
   pub second_long : k₂ ≡ length (further_text b)
   pub third : c ≡ further_at (drop (at + k₁ + k₂) t)
 
+-- the same from what the steps of the reader promise
+pub taken : {t : List ℕ} {at a k₁ b k₂ c : ℕ} → a ≡ rate_at (drop at t) → (a ≡ 0 → ⊥) → k₁ ≡ length (decimal a) → b ≡ further_at (drop (at + k₁) t) → k₂ ≡ length (further_text b)
+    → c ≡ further_at (drop (at + k₁ + k₂) t) → Taken t at a k₁ b k₂ c
+taken f n l s m h = record { first = f; first_some = n; first_long = l; second = s; second_long = m; third = h }
+
 pub from_steps : {t : List ℕ} {at a k₁ b k₂ c : ℕ} → Taken t at a k₁ b k₂ c → (n k₃ : ℕ) → k₃ ≡ length (further_text c)
     → settle a b c (tcmax_behind n (drop (at + k₁ + k₂ + k₃) t)) ≡ from_rates n (drop at t)
 unfolding from_rates

@@ -1,12 +1,11 @@
 -- Words stored in a buffer, one behind another.
 use mathlib.Core.Path.{◌≡◌, refl, ap, ◌∙◌}
 use mathlib.Core.List.{List, [], ◌∷◌, ◌++◌}
-use Prim.Native.Nat.{ℕ, suc, ◌+◌, ◌≤◌, ◌<◌}
+use Prim.Native.Nat.{ℕ, suc, ◌+◌, ◌≤◌}
 use native.Mathlib.Omega.{arith}
 use native.Mathlib.Nat.{add-zero}
-use native.Mathlib.Numerals.{add-one}
-use lib.ListN.{length, get_or, set, drop, length-set, length-append}
-use lib.Seq.{sets, length-sets, drop-cons, drop-length}
+use lib.ListN.{length, set, drop, length-append}
+use lib.Seq.{sets, length-sets}
 use Rattle.fmtp.specs.Steps.{Stored}
 
 -- ---- the loop that stores a word
@@ -15,24 +14,6 @@ pub record Storing (before : List ℕ) (at : ℕ) (w after : List ℕ) (i : ℕ)
   pub upto : i ≤ length w
   pub long : length after ≡ length before
   pub rest : sets after (at + i) (drop i w) ≡ sets before at w
-
-module _ (before : List ℕ) (at : ℕ) (w : List ℕ) where
-  pub storing_start : Storing before at w before 0
-  storing_start = record { upto = omega arith; long = refl; rest = ap (λ (k : ℕ). sets before k w) (add-zero at) }
-
-  pub storing_next : (after : List ℕ) (i : ℕ) → Storing before at w after i → i < length w → Storing before at w (set after (at + i) (get_or w i 0)) (i + 1)
-  storing_next after i h lt = record {
-    upto = omega arith;
-    long = length-set after (at + i) (get_or w i 0) ∙ h.long;
-    rest =
-        let e : at + (i + 1) ≡ suc (at + i) = omega arith in
-        rw (e, add-one i) (rw (drop-cons w i 0 lt) at h.rest);
-  }
-
-  pub storing_end : (after : List ℕ) (i : ℕ) → Storing before at w after i → length w ≤ i → Stored before at w (at + i) after
-  storing_end after i h l =
-      let e : i ≡ length w = omega (arith, h.upto) in
-      record { end = ap (λ (k : ℕ). at + k) e; octets = rw (e, drop-length w) at h.rest }
 
 -- ---- one word behind another
 

@@ -1,14 +1,12 @@
 -- Fixed words at a text's start, letter case folded: what `starts_with` tells of the text, and the loop that compares.
 use mathlib.Core.Path.{◌≡◌, refl, sym, ap, ◌∙◌}
-use mathlib.Core.Bool.{Bool, true, false, false≢true, ◌&&◌}
+use mathlib.Core.Bool.{Bool, true, false, false≢true}
 use mathlib.Core.List.{List, [], ◌∷◌, ◌++◌, map}
-use Prim.Native.Nat.{ℕ, suc, ◌+◌, ◌-◌, ◌≤◌, ◌<◌}
+use Prim.Native.Nat.{ℕ, ◌+◌, ◌-◌, ◌≤◌, ◌<◌}
 use native.Mathlib.Omega.{arith}
-use native.Mathlib.Numerals.{add-one}
 use native.Mathlib.Decide.{ℕ_discrete}
 use lib.Dec.{eqb, ltb}
-use lib.ListN.{length, get_or, take, drop, length-map, length-drop, length-append, get_or-map}
-use lib.Seq.{drop-cons, drop-length}
+use lib.ListN.{length, take, drop, length-map, length-drop, length-append}
 use mathlib.Core.Logic.{◌⊎◌, inl, inr}
 use borrow.Author.Tests.{lt-ltb, le-ltb, eq-eqb, ne_eqb, eqb-true, ltb-true}
 use Rattle.fmtp.specs.Text.{lower}
@@ -65,14 +63,6 @@ module _ (x w : ℕ) where
       go (yes e) = eq-eqb x (w - 32) e ∙ sym (eq-eqb (lower x) w (capital_folds x (omega arith) (omega arith) ∙ omega arith))
       go (no e) = ne_eqb x (w - 32) e ∙ sym (ne_eqb (lower x) w (λ f. e (omega (arith, fold_capital x w f n))))
 
-get_d_fold : (w : List ℕ) (i : ℕ) → get_or (map lower w) i 0 ≡ lower (get_or w i 0)
-unfolding lower
-get_d_fold w i = get_or-map lower w i 0
-
--- an octet of a word that is its own folding
-pub word_octet : (w : List ℕ) (i : ℕ) → map lower w ≡ w → lower (get_or w i 0) ≡ get_or w i 0
-word_octet w i e = sym (get_d_fold w i) ∙ ap (λ (l : List ℕ). get_or l i 0) e
-
 -- ---- lengths
 
 pub empty_list : (t : List ℕ) → length t ≡ 0 → t ≡ []
@@ -102,33 +92,8 @@ pub record Compared (w t : List ℕ) (at i : ℕ) : Type 0 where
   pub room : at + length w ≤ length t
   pub rest : starts_with (drop i w) (drop (at + i) t) ≡ starts_with w (drop at t)
 
-module _ (w t : List ℕ) (at : ℕ) where
-  pub compared_short : at ≤ length t → length t - at < length w → false ≡ starts_with w (drop at t)
-  compared_short h l = starts_short w (drop at t) (omega (arith, length-drop at t))
-
-  pub compared_start : at ≤ length t → length w ≤ length t - at → Compared w t at 0
-  compared_start h r =
-      let z : at + 0 ≡ at = omega arith in
-      record { upto = omega arith; room = omega arith; rest = ap (λ (k : ℕ). starts_with w (drop k t)) z }
-
-  module _ (i : ℕ) (h : Compared w t at i) (lt : i < length w) where
-    next : (eqb (lower (get_or t (at + i) 0)) (get_or w i 0) && starts_with (drop (suc i) w) (drop (suc (at + i)) t)) ≡ starts_with w (drop at t)
-    next =
-        let lt₂ : at + i < length t = omega (arith, h.room) in
-        rw (drop-cons w i 0 lt, drop-cons t (at + i) 0 lt₂) at h.rest
-
-    pub compared_same : true ≡ eqb (lower (get_or t (at + i) 0)) (get_or w i 0) → Compared w t at (i + 1)
-    compared_same e =
-        let f : at + suc i ≡ suc (at + i) = omega arith in
-        record { upto = omega arith; room = h.room; rest = rw (add-one i, f) (simp (sym e) at next) }
-
-    pub compared_other : false ≡ eqb (lower (get_or t (at + i) 0)) (get_or w i 0) → false ≡ starts_with w (drop at t)
-    compared_other e = simp (sym e) at next
-
-  pub compared_end : (i : ℕ) → Compared w t at i → length w ≤ i → true ≡ starts_with w (drop at t)
-  compared_end i h l =
-      let e : i ≡ length w = omega (arith, h.upto) in
-      rw (e, drop-length w) at h.rest
+pub compared_short : (w t : List ℕ) (at : ℕ) → at ≤ length t → length t - at < length w → false ≡ starts_with w (drop at t)
+compared_short w t at h l = starts_short w (drop at t) (omega (arith, length-drop at t))
 
 -- ---- what a word at the start tells of the text, and what a text tells of a word
 

@@ -1,12 +1,12 @@
 -- The parts of a text stored one behind another, and the writer's promise.
 use mathlib.Core.Path.{◌≡◌, refl, sym, ap, ◌∙◌}
-use mathlib.Core.Bool.{Bool, true, false, not}
+use mathlib.Core.Bool.{Bool, true, false}
 use mathlib.Core.List.{List, [], ◌∷◌, ◌++◌}
 use Prim.Native.Nat.{ℕ, ◌+◌, ◌/◌, ◌%◌, ◌≤◌, ◌<◌}
 use native.Mathlib.Omega.{arith}
 use lib.ListN.{length, drop}
 use lib.Seq.{sets-eq}
-use borrow.Author.Tests.{not-true, not-false, lt-ltb, le-ltb}
+use borrow.Author.Tests.{lt-ltb, le-ltb}
 use Rattle.refusal.specs.Numbers.{wrong_settings, octets_too_short}
 use Rattle.refusal.specs.Report.{Report, accepted, refused_with, refusal, filled}
 use Rattle.fmtp.specs.declared.Settings.{Settings}
@@ -80,13 +80,13 @@ promise : {s : Settings} {before after : List ℕ} {r : Written} (x : Report ℕ
 promise x e f g = record { answer = f ∙ sym e; octets = rw e g }
 
 module _ (s : Settings) (before : List ℕ) where
-  pub write_wrong : {b : Bool} → b ≡ may_be_written s → not b ≡ true → Writes s before before (Refused (refusal wrong_settings 0))
+  pub write_wrong : {b : Bool} → b ≡ may_be_written s → b ≡ false → Writes s before before (Refused (refusal wrong_settings 0))
   unfolding filled
-  write_wrong {b} d n = promise (refused_with 0 (refusal wrong_settings 0)) (writing_wrong s (length before) (sym d ∙ not-true b n)) refl refl
+  write_wrong {b} d n = promise (refused_with 0 (refusal wrong_settings 0)) (writing_wrong s (length before) (sym d ∙ n)) refl refl
 
-  module _ {b : Bool} (d : b ≡ may_be_written s) (n : not b ≡ false) {k : ℕ} (long : k ≡ length (text_of s)) where
+  module _ {b : Bool} (d : b ≡ may_be_written s) (n : b ≡ true) {k : ℕ} (long : k ≡ length (text_of s)) where
     may : may_be_written s ≡ true
-    may = sym d ∙ not-false b n
+    may = sym d ∙ n
 
     pub write_short : length before < k → Writes s before before (Refused (refusal octets_too_short k))
     unfolding filled

@@ -6,7 +6,6 @@ use native.Mathlib.Omega.{arith}
 use lib.ListN.{length, take, drop, length-drop, drop_of_length-le}
 use lib.Seq.{length-take-le}
 use Rattle.refusal.specs.declared.Refusal.{Refusal}
-use Rattle.journal.specs.Entry.{Entry}
 use Rattle.journal.specs.Reading.{Reading, entry, end, broken, number_then, body_then, behind_ticks, reading_of}
 use Rattle.refusal.specs.Report.{Report}
 use Rattle.octets.specs.Part.{Part}

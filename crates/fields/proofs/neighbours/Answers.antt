@@ -1,0 +1,11 @@
+use Rattle.fields.proofs.Unpacking.{paired_start, paired_small, paired_step}
+use Rattle.fields.proofs.neighbours.Goals as goal
+
+pub loop-i-init : goal.loop-i-init
+loop-i-init c = paired_start _ c.requires
+
+pub overflow_add-pairs : goal.overflow_add-pairs
+overflow_add-pairs c = record { fits = paired_small _ _ _ _ c.loop-i.invariant c.reversed-octet.ensures }
+
+pub loop-i-preserved : goal.loop-i-preserved
+loop-i-preserved c = paired_step _ _ _ _ c.loop-i.invariant c.loop-i-test.true c.reversed-octet.ensures

@@ -1,0 +1,8 @@
+use Rattle.leb128.proofs.Writing.{Writes}
+use Rattle.leb128.proofs.put_groups.Given as goal
+
+abbrev pub invariant-loop-rest : goal.invariant-loop-rest
+invariant-loop-rest l = Writes l.n l.initial.out l.at l.rest l.out l.i
+
+abbrev pub decreases-loop-rest : goal.decreases-loop-rest
+decreases-loop-rest l = l.rest

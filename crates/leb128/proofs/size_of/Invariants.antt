@@ -1,0 +1,8 @@
+use Rattle.leb128.proofs.Writing.{Counted}
+use Rattle.leb128.proofs.size_of.Given as goal
+
+abbrev pub invariant-loop-rest : goal.invariant-loop-rest
+invariant-loop-rest l = Counted l.n l.rest l.size
+
+abbrev pub decreases-loop-rest : goal.decreases-loop-rest
+decreases-loop-rest l = l.rest

@@ -1,0 +1,13 @@
+-- `views::step_back` comes to the frame of the row.
+use native.Mathlib.Omega.{arith}
+use mathlib.Core.Path.{sym, ◌∙◌}
+use lib.Seq.{length-take-le}
+use borrow.Author.Rules.{rules}
+use Rattle.views.proofs.StepBackLoop.{StepBackLoop, Passed, loop_start, loop_inside, loop_refused, loop_passed}
+use Rattle.views.proofs.step_back.Given as goal
+
+abbrev pub invariant-loop-named : goal.invariant-loop-named
+invariant-loop-named l = StepBackLoop l.framing l.payload l.row l.unread l.rows
+
+abbrev pub decreases-loop-named : goal.decreases-loop-named
+decreases-loop-named l = l.rows

@@ -1,0 +1,15 @@
+-- `writer::put_frame` copies a body, sets the rate code in its base's last octet, and writes the count behind it.
+use native.Mathlib.Omega.{arith}
+use Rattle.writer.proofs.Shapes.{Sizes, sizes, last_fits, body_copied, end_inside, count_asked, frame_put, length-put}
+use borrow.Author.Rules.{rules}
+use Rattle.writer.proofs.put_frame.Goals as goal
+
+pub put_count-requires : goal.put_count-requires
+put_count-requires c =
+    let is = c.shape_of-shape.ensures in
+    count_asked _ _ _ _ _ _ c.requires is (body_copied _ _ c.args.from c.args.row _ _ c.requires is c.copy.ensures)
+
+pub returns : goal.returns
+returns c =
+    let is = c.shape_of-shape.ensures in
+    frame_put _ _ _ _ _ _ c.requires is (body_copied _ _ c.args.from c.args.row _ _ c.requires is c.copy.ensures) c.put_count.ensures

@@ -1,0 +1,16 @@
+-- `writer::row_by_row` checks rows in turn and adds their octets up: the loop keeps what RowLoop says.
+use mathlib.Core.Path.{◌∙◌}
+use Prim.Native.Nat.{◌-◌, ◌≤◌}
+use native.Mathlib.Omega.{arith}
+use borrow.Author.Rules.{rules}
+use Rattle.writer.proofs.RowLoop.{RowLoop, Onward, loop_start, loop_refused, onward, loop_long, loop_end}
+use Rattle.writer.proofs.row_by_row.Goals as goal
+
+pub returns-in-Refused : goal.returns-in-Refused
+returns-in-Refused c = loop_refused _ _ _ _ _ _ c.loop-i.invariant.0 (omega arith) c.next_row-checked.ensures _ c.in-Refused.is
+
+pub overflow_add-wire : goal.overflow_add-wire
+overflow_add-wire c = let z = c.loop-i.invariant.0 in omega (arith, ((let it : Onward c.args.framing c.args.rows.now c.loop-i.i c.loop-i.bodies c.loop-i.wire c.shape_of-shape.result = onward _ _ _ _ _ _ c.loop-i.invariant.0 (omega arith) c.next_row-checked.ensures _ _ c.in-Passes.is c.shape_of-shape.ensures in it)).small, z.most, (let it : c.args.n ≤ 200 = c.requires.1 in it))
+
+pub loop-i-preserved : goal.loop-i-preserved
+loop-i-preserved c = (((let it : Onward c.args.framing c.args.rows.now c.loop-i.i c.loop-i.bodies c.loop-i.wire c.shape_of-shape.result = onward _ _ _ _ _ _ c.loop-i.invariant.0 (omega arith) c.next_row-checked.ensures _ _ c.in-Passes.is c.shape_of-shape.ensures in it)).then, omega arith)
