@@ -11,7 +11,7 @@ use lib.ListN.{length, length-append}
 use Rattle.refusal.specs.declared.Refusal.{Refusal}
 use Rattle.octets.specs.Octet.{Octets}
 use Rattle.wire.specs.Frame.{Frame, Legal, LegalBodies, table, framing_of, base, wire_octets, wire, octets_of, rows_of}
-use Rattle.wire.specs.Walk.{Walk, at, refused, read_of}
+use Rattle.wire.specs.Walk.{Walk, refused, read_of}
 use Rattle.wire.specs.Answers.{FramingKnown, Walks}
 use Rattle.wire.specs.declared.Session.{Session}
 use Rattle.wire.specs.declared.Framing.{Framing}

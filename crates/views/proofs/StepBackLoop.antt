@@ -4,7 +4,7 @@ use mathlib.Core.List.{List, [], ◌∷◌, ◌++◌, append_assoc, append-nil}
 use Prim.Native.Nat.{ℕ, ◌+◌, ◌-◌, ◌≤◌, ◌<◌}
 use native.Mathlib.Omega.{arith}
 use lib.ListN.{length, take, length-append}
-use Rattle.wire.specs.Frame.{Frame, Legal, base, wire_octets, wire, octets_of}
+use Rattle.wire.specs.Frame.{Frame, Legal, wire_octets, wire, octets_of}
 use Rattle.wire.specs.Walk.{ending, read_of}
 use Rattle.wire.specs.Answers.{shape_of, Identified}
 use Rattle.wire.specs.declared.Framing.{Framing}

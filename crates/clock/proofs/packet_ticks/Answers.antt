@@ -1,6 +1,5 @@
 -- `clock::packet_ticks` asks for the session's framing, and gives the ticks with it.
-use Rattle.clock.proofs.Times.{packet_unknown, packet_known}
-use borrow.Author.Rules.{rules}
+use Rattle.clock.proofs.Times.{packet_known}
 use Rattle.clock.proofs.packet_ticks.Goals as goal
 
 pub returns-in-Is : goal.returns-in-Is

@@ -1,9 +1,7 @@
 -- `clock::ptime` follows the rounding rule.
 use mathlib.Core.Path.{ap, ◌∙◌}
-use native.Mathlib.Omega.{arith}
 use Rattle.clock.specs.Time.{ptime_report}
-use Rattle.clock.proofs.Times.{product_most, ptime_rate, ptime_none, ptime_many, ptime_lasts}
-use borrow.Author.Rules.{rules}
+use Rattle.clock.proofs.Times.{ptime_rate, ptime_none, ptime_many, ptime_lasts}
 use Rattle.clock.proofs.ptime.Goals as goal
 
 pub returns-then-ticks-eq0 : goal.returns-then-ticks-eq0

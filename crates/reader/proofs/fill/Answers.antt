@@ -3,7 +3,7 @@ use mathlib.Core.Path.{sym}
 use native.Mathlib.Omega.{arith}
 use lib.Seq.{length-take-le}
 use borrow.Author.Rules.{rules}
-use Rattle.reader.proofs.FillLoop.{FillLoop, Turn, fill_start, fill_named, fill_turn, fill_end}
+use Rattle.reader.proofs.FillLoop.{Turn, fill_start, fill_named, fill_turn, fill_end}
 use Rattle.reader.proofs.fill.Goals as goal
 
 pub loop-unread-init : goal.loop-unread-init

@@ -1,5 +1,4 @@
 -- `reader::put_body` puts a frame's body in place: a copy, and a store that clears the rate code bits.
-use borrow.Author.Rules.{rules}
 use Rattle.reader.proofs.FrameBodies.{body_put}
 use Rattle.reader.proofs.put_body.Goals as goal
 

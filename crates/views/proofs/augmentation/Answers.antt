@@ -1,5 +1,4 @@
 -- `views::augmentation` shows the row's augmentation, or the empty part at the payload's start.
-use borrow.Author.Rules.{rules}
 use Rattle.views.proofs.RowLocation.{within}
 use Rattle.views.proofs.Shown.{augmentation_missing, augmentation_at_lem}
 use Rattle.views.proofs.augmentation.Goals as goal

@@ -1,5 +1,4 @@
 -- `views::frame_or` shows the row's own octets, or the whole stand-in.
-use borrow.Author.Rules.{rules}
 use Rattle.views.proofs.RowLocation.{within}
 use Rattle.views.proofs.Shown.{frame_missing, frame_at}
 use Rattle.views.proofs.frame_or.Goals as goal

@@ -1,6 +1,5 @@
 -- `views::locate` gives the location of the row in a legal session, or missing.
-use borrow.Author.Rules.{rules}
-use Rattle.views.proofs.RowLocation.{unknown_missing, framed_located}
+use Rattle.views.proofs.RowLocation.{framed_located}
 use Rattle.views.proofs.locate.Goals as goal
 
 pub returns-in-Is : goal.returns-in-Is

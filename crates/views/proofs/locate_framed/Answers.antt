@@ -1,5 +1,4 @@
 -- `views::locate_framed` gives the location of the row, or missing where the walk refuses or holds no such row.
-use borrow.Author.Rules.{rules}
 use Rattle.views.proofs.RowLocation.{walk_refused, walk_holds, walk_past}
 use Rattle.views.proofs.locate_framed.Goals as goal
 

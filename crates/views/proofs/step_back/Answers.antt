@@ -1,9 +1,7 @@
 -- `views::step_back` comes to the frame of the row.
-use native.Mathlib.Omega.{arith}
 use mathlib.Core.Path.{sym, ◌∙◌}
 use lib.Seq.{length-take-le}
-use borrow.Author.Rules.{rules}
-use Rattle.views.proofs.StepBackLoop.{StepBackLoop, Passed, loop_start, loop_inside, loop_refused, loop_passed}
+use Rattle.views.proofs.StepBackLoop.{Passed, loop_inside, loop_refused, loop_passed}
 use Rattle.views.proofs.step_back.Goals as goal
 
 pub slice_bounds-identify-end : goal.slice_bounds-identify-end

@@ -1,9 +1,5 @@
 -- `views::step_back` comes to the frame of the row.
-use native.Mathlib.Omega.{arith}
-use mathlib.Core.Path.{sym, ◌∙◌}
-use lib.Seq.{length-take-le}
-use borrow.Author.Rules.{rules}
-use Rattle.views.proofs.StepBackLoop.{StepBackLoop, Passed, loop_start, loop_inside, loop_refused, loop_passed}
+use Rattle.views.proofs.StepBackLoop.{StepBackLoop}
 use Rattle.views.proofs.step_back.Given as goal
 
 abbrev pub invariant-loop-named : goal.invariant-loop-named

@@ -1,7 +1,5 @@
 -- `wire::admit` makes the step over a frame, or its refusal: the cases of StepCases, in the code's order.
-use native.Mathlib.Omega.{arith}
-use borrow.Author.Rules.{rules}
-use Rattle.wire.proofs.StepCases.{sized, admit_cut, admit_foreign, admit_noise, admit_late, admit_first, admit_same, admit_mixed}
+use Rattle.wire.proofs.StepCases.{admit_cut, admit_foreign, admit_noise, admit_late, admit_first, admit_same, admit_mixed}
 use Rattle.wire.proofs.admit.Goals as goal
 
 pub returns-then-n-wire : goal.returns-then-n-wire

@@ -1,6 +1,4 @@
 -- `wire::count_octets` gives the length of the count.
-use mathlib.Core.Path.{◌∙◌}
-use borrow.Author.Rules.{rules}
 use Rattle.wire.specs.Frame.{count_in}
 use Rattle.wire.proofs.count_octets.Goals as goal
 

@@ -1,7 +1,6 @@
 -- `wire::identify` gives what the unread octets name by their end.
 use mathlib.Core.Path.{refl, sym, ◌∙◌}
 use native.Mathlib.Omega.{arith}
-use borrow.Author.Rules.{rules}
 use Rattle.wire.proofs.Endings.{identified, ending_none, ending_one, ending-alone, ending_two}
 use Rattle.wire.proofs.identify.Goals as goal
 

@@ -1,7 +1,6 @@
 -- `wire::next_frame` makes the step over the frame that the unread octets end in; its lanes are what one octet names.
 use mathlib.Core.Path.{refl}
 use native.Mathlib.Omega.{arith}
-use borrow.Author.Rules.{rules}
 use Rattle.wire.proofs.StepCases.{step_refused, step_names, step_octet, names_low, names_noise, names_short}
 use Rattle.wire.proofs.next_frame.Goals as goal
 

@@ -1,10 +1,8 @@
 -- `wire::shape_of` gives a row's numbers; they fit, since a base has at most 11 octets and a count at most two.
 use mathlib.Core.Path.{ap}
 use native.Mathlib.Omega.{arith}
-use borrow.Author.Rules.{rules}
 use Rattle.wire.specs.declared.Entry.{Entry}
 use Rattle.wire.proofs.TableLaws.{bounds, count_most}
-use Rattle.wire.proofs.StepCases.{shape_is}
 use Rattle.wire.proofs.shape_of.Goals as goal
 
 pub overflow_add-result : goal.overflow_add-result

@@ -1,5 +1,4 @@
 -- `wire::walk` refuses a payload of more than 1,400 octets, and else walks.
-use borrow.Author.Rules.{rules}
 use Rattle.wire.proofs.WalkLoop.{too_long_lem, walks}
 use Rattle.wire.proofs.walk.Goals as goal
 

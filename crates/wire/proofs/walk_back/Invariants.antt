@@ -1,10 +1,7 @@
 -- `wire::walk_back` walks as the definition does: the loop keeps what WalkLoop says, with the ticks as coder frames times those of their rate.
-use mathlib.Core.Path.{◌≡◌, refl, sym}
+use mathlib.Core.Path.{◌≡◌}
 use Prim.Native.Nat.{◌≤◌}
-use native.Mathlib.Omega.{arith}
-use borrow.Author.Rules.{rules}
-use lib.Seq.{length-take-le}
-use Rattle.wire.proofs.WalkLoop.{WalkLoop, Fits, counted, added_noise, added_coder, loop_rate, loop_start, loop_end, loop_refused, loop_fits, loop_over}
+use Rattle.wire.proofs.WalkLoop.{WalkLoop, counted}
 use Rattle.wire.proofs.walk_back.Given as goal
 
 abbrev pub invariant-loop-unread : goal.invariant-loop-unread

@@ -1,6 +1,5 @@
 -- `writer::admit` checks a row of a known kind as the definition does, the earlier rows known by their rate.
 use Rattle.writer.proofs.RowLaws.{too_low, too_high, noise_not_last, noise_ends, first_rate, same_rate, other_rate}
-use borrow.Author.Rules.{rules}
 use Rattle.writer.proofs.admit.Goals as goal
 
 pub returns-then-tc-entry : goal.returns-then-tc-entry

@@ -1,9 +1,7 @@
 -- `writer::bad_end` looks at the ends of the bodies in turn: the loop keeps what EndLoop says.
-use Prim.Native.Nat.{◌-◌, ◌<◌}
-use native.Mathlib.Omega.{arith}
-use borrow.Author.Rules.{rules}
+use Prim.Native.Nat.{◌-◌}
 use lib.ListN.{length}
-use Rattle.writer.proofs.FrameLoops.{EndLoop, BodyAt, ends_start, ends_more, ends_never, body_at, ends_bad, ends_on, ends_none}
+use Rattle.writer.proofs.FrameLoops.{EndLoop}
 use Rattle.writer.proofs.bad_end.Given as goal
 
 abbrev pub invariant-loop-at : goal.invariant-loop-at

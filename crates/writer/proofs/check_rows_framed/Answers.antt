@@ -2,7 +2,6 @@
 use mathlib.Core.Path.{ap, sym, ◌∙◌}
 use Rattle.writer.specs.Answers.{row_check_of}
 use Rattle.writer.proofs.RowSequences.{check_odd, check_many, check_each}
-use borrow.Author.Rules.{rules}
 use Rattle.writer.proofs.check_rows_framed.Goals as goal
 
 pub returns-then-len-eq1 : goal.returns-then-len-eq1

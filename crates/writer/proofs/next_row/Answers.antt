@@ -1,7 +1,6 @@
 -- `writer::next_row` checks the row at an index as the definition does: 12, and then what `admit` checks.
 use mathlib.Core.Path.{◌∙◌}
 use Rattle.writer.proofs.RowLaws.{named-refused, named_passes}
-use borrow.Author.Rules.{rules}
 use Rattle.writer.proofs.next_row.Goals as goal
 
 pub returns-in-Refused : goal.returns-in-Refused

@@ -1,9 +1,5 @@
 -- `writer::put` writes the frames in turn: the loop keeps what PutLoop says.
-use Prim.Native.Nat.{◌-◌}
-use native.Mathlib.Omega.{arith}
-use borrow.Author.Rules.{rules}
-use lib.ListN.{length}
-use Rattle.writer.proofs.FrameLoops.{PutLoop, put_start, put_more, put_never, put_fits, put_on, put_end}
+use Rattle.writer.proofs.FrameLoops.{put_start, put_more, put_never, put_fits, put_on, put_end}
 use Rattle.writer.proofs.put.Goals as goal
 
 pub loop-at-init : goal.loop-at-init

@@ -1,7 +1,5 @@
 -- `writer::put_all` refuses for want of room, 10, or writes the octets.
-use native.Mathlib.Omega.{arith}
 use Rattle.writer.proofs.WriteStages.{ends_refused, room_short, written}
-use borrow.Author.Rules.{rules}
 use Rattle.writer.proofs.put_all.Goals as goal
 
 pub returns-then-out-wire : goal.returns-then-out-wire

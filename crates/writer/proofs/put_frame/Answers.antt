@@ -1,7 +1,5 @@
 -- `writer::put_frame` copies a body, sets the rate code in its base's last octet, and writes the count behind it.
-use native.Mathlib.Omega.{arith}
-use Rattle.writer.proofs.Shapes.{Sizes, sizes, last_fits, body_copied, end_inside, count_asked, frame_put, length-put}
-use borrow.Author.Rules.{rules}
+use Rattle.writer.proofs.Shapes.{body_copied, count_asked, frame_put}
 use Rattle.writer.proofs.put_frame.Goals as goal
 
 pub put_count-requires : goal.put_count-requires

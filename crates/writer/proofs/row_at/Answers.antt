@@ -1,6 +1,5 @@
 -- `writer::row_at` reads the two numbers of a row, and looks its kind up.
 use Rattle.writer.proofs.RowLaws.{unknown-row, known-row}
-use borrow.Author.Rules.{rules}
 use Rattle.writer.proofs.row_at.Goals as goal
 
 pub returns-in-Unknown : goal.returns-in-Unknown

@@ -1,9 +1,7 @@
 -- `writer::row_by_row` checks rows in turn and adds their octets up: the loop keeps what RowLoop says.
-use mathlib.Core.Path.{◌∙◌}
-use Prim.Native.Nat.{◌-◌, ◌≤◌}
+use Prim.Native.Nat.{◌≤◌}
 use native.Mathlib.Omega.{arith}
-use borrow.Author.Rules.{rules}
-use Rattle.writer.proofs.RowLoop.{RowLoop, Onward, loop_start, loop_refused, onward, loop_long, loop_end}
+use Rattle.writer.proofs.RowLoop.{Onward, loop_refused, onward}
 use Rattle.writer.proofs.row_by_row.Goals as goal
 
 pub returns-in-Refused : goal.returns-in-Refused

@@ -1,6 +1,5 @@
 -- `writer::write` refuses a rate that no session agrees on, 12 at 0, and else writes; so it keeps its promise, the exactness included.
-use Rattle.writer.proofs.Exactness.{unknown-refused, known_writes}
-use borrow.Author.Rules.{rules}
+use Rattle.writer.proofs.Exactness.{known_writes}
 use Rattle.writer.proofs.write.Goals as goal
 
 pub returns-in-Is : goal.returns-in-Is

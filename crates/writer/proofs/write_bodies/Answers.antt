@@ -1,6 +1,5 @@
 -- `writer::write_bodies` refuses for the bodies' length, 14, or a bad end, 3, or hands on.
-use Rattle.writer.proofs.WriteStages.{ends_refused, in_order, length_wrong, ends_good, end_bad}
-use borrow.Author.Rules.{rules}
+use Rattle.writer.proofs.WriteStages.{ends_refused, length_wrong, end_bad}
 use Rattle.writer.proofs.write_bodies.Goals as goal
 
 pub returns-then-bodies-sum : goal.returns-then-bodies-sum

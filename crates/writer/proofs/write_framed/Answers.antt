@@ -1,7 +1,6 @@
 -- `writer::write_framed` makes the checks of the rows, then those of the bodies, then writes.
 use mathlib.Core.Path.{refl, sym, ◌∙◌}
 use Rattle.writer.proofs.WriteStages.{ends_refused, write_refused}
-use borrow.Author.Rules.{rules}
 use Rattle.writer.proofs.write_framed.Goals as goal
 
 pub returns-in-Refused : goal.returns-in-Refused
