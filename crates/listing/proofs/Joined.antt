@@ -12,7 +12,7 @@ use Rattle.leb128.specs.Number.{step_of}
 use Rattle.leb128.specs.declared.Group.{Group}
 use Rattle.leb128.specs.declared.Group.TheVariants.{More, Last, Bad}
 use Rattle.listing.specs.Line.{payload_line}
-use Rattle.listing.specs.Listing.{following, Stage, moved, listed, within, grouped, is_in_payload, next_in, next, has_room, run, closing_line, state_of, started, fresh, closed, listing}
+use Rattle.listing.specs.Listing.{following, Stage, moved, within, grouped, is_in_payload, next_in, next, has_room, run, closing_line, state_of, started, fresh, closed, listing}
 use Rattle.listing.specs.Answers.{ListsPart, Calls, last, stop, call}
 use Rattle.listing.specs.declared.Phase.{Phase}
 use Rattle.listing.specs.declared.Phase.TheVariants.{Length, Payload, BadLength}

@@ -24,16 +24,8 @@ use Rattle.views.specs.declared.Location.TheVariants.{At, Missing}
 use Rattle.views.proofs.RowLocation.{within}
 use Rattle.views.proofs.Shown.{frame_view, augmentation_view}
 use Rattle.moult.specs.Structs.{body_octets_of, lent, part_of}
-use Rattle.moult.specs.Promises.{Returned, HostAugments, HostShows}
+use Rattle.moult.specs.Promises.{HostAugments, HostShows}
 use Rattle.moult.specs.declared.MoultPart.{MoultPart}
-
--- an answer of which the promise holds, known to be c
-pub returned : {A X : Type 0} {Promise : A → Type 0} {struct_of : A → X} {a c : A} → Promise a → a ≡ c → Returned Promise struct_of (struct_of c)
-returned {struct_of = f} {a = a} h e = record { answer = a; promise = h; is = ap f (sym e) }
-
--- the same, where the struct was made by a function
-pub returned_by : {A X : Type 0} {Promise : A → Type 0} {struct_of : A → X} {a c : A} {x : X} → x ≡ struct_of c → Promise a → a ≡ c → Returned Promise struct_of x
-returned_by {struct_of = f} {a = a} q h e = record { answer = a; promise = h; is = q ∙ ap f (sym e) }
 
 -- ---- a row's body
 

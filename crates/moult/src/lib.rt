@@ -1,4 +1,5 @@
-// The library as a C host calls it. A slice is a pointer and a length; include/moult.h declares each function.
+// The library as a C host calls it. A slice is a pointer and a length; include/moult.h declares each function. moult_c makes the
+// static library of them.
 #![tactic(auto)]
 
 ghost use Rattle.std.specs.Prelude.{◌≡◌, [], length};

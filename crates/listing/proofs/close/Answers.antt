@@ -1,9 +1,6 @@
 -- `listing::close` writes the last line, or refuses a buffer that it does not fit.
-use mathlib.Core.Path.{sym}
 use native.Mathlib.Omega.{arith}
-use lib.Seq.{length-take-le}
-use Rattle.listing.proofs.Answering.{line_kept, close_short, close_line}
-use borrow.Author.Rules.{rules}
+use Rattle.listing.proofs.Answering.{close_short, close_line}
 use Rattle.listing.proofs.close.Goals as goal
 
 pub returns-then-out-n : goal.returns-then-out-n

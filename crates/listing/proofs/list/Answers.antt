@@ -1,6 +1,5 @@
 -- `listing::list` lists a part of the input, or refuses buffers that are too short.
 use Rattle.listing.proofs.Answering.{list_buffer, list_room, list_part}
-use borrow.Author.Rules.{rules}
 use Rattle.listing.proofs.list.Goals as goal
 
 pub returns-then-payload-lt-MOST_OCTETS : goal.returns-then-payload-lt-MOST_OCTETS

@@ -1,8 +1,5 @@
 -- `listing::list_part` lists a part of the input, as long as any line has room.
-use Prim.Native.Nat.{◌-◌}
-use native.Mathlib.Omega.{arith}
-use lib.ListN.{length}
-use Rattle.listing.proofs.Taking.{Kept, kept_start, kept_ready, kept_step, kept_all, kept_full}
+use Rattle.listing.proofs.Taking.{kept_step, kept_full}
 use Rattle.listing.proofs.list_part.Goals as goal
 
 pub returns-then-out-progress-lt-LINE_ROOM : goal.returns-then-out-progress-lt-LINE_ROOM

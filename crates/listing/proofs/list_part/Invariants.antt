@@ -1,8 +1,7 @@
 -- `listing::list_part` lists a part of the input, as long as any line has room.
 use Prim.Native.Nat.{◌-◌}
-use native.Mathlib.Omega.{arith}
 use lib.ListN.{length}
-use Rattle.listing.proofs.Taking.{Kept, kept_start, kept_ready, kept_step, kept_all, kept_full}
+use Rattle.listing.proofs.Taking.{Kept}
 use Rattle.listing.proofs.list_part.Given as goal
 
 abbrev pub invariant-loop-progress : goal.invariant-loop-progress

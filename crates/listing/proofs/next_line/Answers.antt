@@ -1,6 +1,5 @@
 -- `listing::next_line` gives the number of the next payload line.
 use Rattle.listing.proofs.Lines.{following_more, following_last}
-use borrow.Author.Rules.{rules}
 use Rattle.listing.proofs.next_line.Goals as goal
 
 pub returns-then-lines-lt18446744073709551615 : goal.returns-then-lines-lt18446744073709551615

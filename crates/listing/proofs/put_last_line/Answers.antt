@@ -1,6 +1,5 @@
 -- `listing::put_last_line` stores a last line.
-use Rattle.listing.proofs.Lines.{last_room, last_stored}
-use borrow.Author.Rules.{rules}
+use Rattle.listing.proofs.Lines.{last_room}
 use Rattle.listing.proofs.put_last_line.Goals as goal
 
 pub put_word-requires : goal.put_word-requires

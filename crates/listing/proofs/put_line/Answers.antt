@@ -1,6 +1,5 @@
 -- `listing::put_line` stores a payload line.
 use Rattle.listing.proofs.Lines.{line_room_lem, line_room_2, line_room_3, line_stored}
-use borrow.Author.Rules.{rules}
 use Rattle.listing.proofs.put_line.Goals as goal
 
 pub put_numbered-second-requires : goal.put_numbered-second-requires

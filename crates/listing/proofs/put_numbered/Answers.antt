@@ -1,6 +1,5 @@
 -- `listing::put_numbered` stores a word and a number.
 use Rattle.listing.proofs.Lines.{numbered_stored}
-use borrow.Author.Rules.{rules}
 use Rattle.listing.proofs.put_numbered.Goals as goal
 
 pub returns : goal.returns

@@ -1,7 +1,6 @@
 -- `listing::put_word` stores a word.
 use mathlib.Core.Path.{refl}
 use Rattle.octets.proofs.Put.{put_copy}
-use borrow.Author.Rules.{rules}
 use Rattle.listing.proofs.put_word.Goals as goal
 
 pub returns : goal.returns

@@ -1,7 +1,6 @@
 -- `listing::take_length_octet` takes an octet of a length.
 use native.Mathlib.Omega.{arith}
-use Rattle.listing.proofs.Taking.{length_few, length_more, length_last, length_bad}
-use borrow.Author.Rules.{rules}
+use Rattle.listing.proofs.Taking.{length_few}
 use Rattle.listing.proofs.take_length_octet.Goals as goal
 
 pub overflow_add-groups : goal.overflow_add-groups

@@ -3,7 +3,6 @@ use mathlib.Core.Path.{refl}
 use native.Mathlib.Omega.{arith}
 use Rattle.octets.proofs.Parts.{part_copied}
 use Rattle.listing.proofs.Taking.{payload_advances}
-use borrow.Author.Rules.{rules}
 use Rattle.listing.proofs.take_payload_octets.Goals as goal
 
 pub returns : goal.returns

@@ -7,6 +7,6 @@ use Rattle.listing.proofs.take_some.Goals.{in-Payload+else-is_in_payload, in-Bad
 pub returns : goal.returns
 returns c =
     elim c.match-phase.branch [
-      in-Payload+else-is_in_payload w ↦ unmade_advances c.requires w.in-Payload.is (sym w.is_in_payload.ensures ∙ w.if-is_in_payload.false) c.moved.ensures
-    | in-BadLength w ↦ bad_advances c.requires w.in-BadLength.is c.moved.ensures
+      | in-Payload+else-is_in_payload w ↦ unmade_advances c.requires w.in-Payload.is (sym w.is_in_payload.ensures ∙ w.if-is_in_payload.false) c.moved.ensures
+      | in-BadLength w ↦ bad_advances c.requires w.in-BadLength.is c.moved.ensures
     ]

@@ -1,6 +1,5 @@
 -- `record::check_end` lends the numbers of the last row and the new ones to the writer's checks.
 use Rattle.record.proofs.Steps.{end_none, end_some}
-use borrow.Author.Rules.{rules}
 use Rattle.record.proofs.check_end.Goals as goal
 
 pub returns-then-rows-eq0 : goal.returns-then-rows-eq0

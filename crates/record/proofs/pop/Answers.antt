@@ -3,7 +3,6 @@ use native.Mathlib.Omega.{arith}
 use Rattle.record.specs.Operations.{to_pop}
 use Rattle.record.proofs.RowLists.{few}
 use Rattle.record.proofs.Changed.{changes_refused, changes_accepted, pop_none, pop_taken}
-use borrow.Author.Rules.{rules}
 use Rattle.record.proofs.pop.Goals as goal
 
 pub returns-then-rows-eq0 : goal.returns-then-rows-eq0

@@ -3,7 +3,6 @@ use native.Mathlib.Omega.{arith}
 use Rattle.record.specs.Operations.{to_push}
 use Rattle.record.proofs.RowLists.{few}
 use Rattle.record.proofs.Changed.{changes_refused, changes_accepted, push_many, push_refused, push_taken}
-use borrow.Author.Rules.{rules}
 use Rattle.record.proofs.push.Goals as goal
 
 pub returns-then-packet-ge-MOST_ROWS : goal.returns-then-packet-ge-MOST_ROWS

@@ -1,7 +1,6 @@
 -- `record::row_at` answers the two numbers of a row, or 12.
 use mathlib.Core.Logic.{inl, inr}
 use Rattle.record.proofs.Asking.{row_asked, row_not_there}
-use borrow.Author.Rules.{rules}
 use Rattle.record.proofs.row_at.Goals as goal
 
 pub returns-then-packet-i : goal.returns-then-packet-i

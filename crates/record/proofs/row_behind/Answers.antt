@@ -2,7 +2,6 @@
 use mathlib.Core.Path.{ap, sym, ◌∙◌}
 use Rattle.writer.specs.Rows.{refused}
 use Rattle.record.proofs.Changed.{behind-refused, behind_sound}
-use borrow.Author.Rules.{rules}
 use Rattle.record.proofs.row_behind.Goals as goal
 
 pub returns-in-Refused : goal.returns-in-Refused

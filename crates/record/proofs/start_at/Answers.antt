@@ -1,7 +1,6 @@
 -- `record::start_at` answers the start that is kept for a row, or 12.
 use mathlib.Core.Logic.{inl, inr}
 use Rattle.record.proofs.Asking.{start_asked, start_not_there}
-use borrow.Author.Rules.{rules}
 use Rattle.record.proofs.start_at.Goals as goal
 
 pub returns-then-packet-i : goal.returns-then-packet-i

@@ -2,7 +2,6 @@
 use mathlib.Core.Path.{refl}
 use Rattle.record.specs.Afresh.{record_of}
 use Rattle.record.proofs.Asking.{asked_field}
-use borrow.Author.Rules.{rules}
 use Rattle.record.proofs.ticks_of.Goals as goal
 
 pub returns : goal.returns

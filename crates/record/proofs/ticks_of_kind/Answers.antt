@@ -1,6 +1,5 @@
 -- `record::ticks_of_kind` looks the kind up, and gives the ticks of its rate.
 use Rattle.record.proofs.Steps.{ticks_none, ticks-known}
-use borrow.Author.Rules.{rules}
 use Rattle.record.proofs.ticks_of_kind.Goals as goal
 
 pub returns-in-Unknown : goal.returns-in-Unknown

@@ -2,7 +2,7 @@
 use Prim.Native.Nat.{◌<◌}
 use native.Mathlib.Omega.{arith}
 use Rattle.wire.proofs.Rates.{ticks_most}
-use Rattle.record.proofs.Steps.{wire_most, with_row_is}
+use Rattle.record.proofs.Steps.{wire_most}
 use borrow.Author.Rules.{rules}
 use Rattle.record.proofs.with_row.Goals as goal
 
