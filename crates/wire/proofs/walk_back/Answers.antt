@@ -11,10 +11,14 @@ pub returns-in-Refused : goal.returns-in-Refused
 returns-in-Refused c = loop_refused _ _ _ _ _ c.loop-unread.invariant.0 c.loop-unread-test.true _ c.in-Refused.is c.next_frame-step.ensures
 
 pub overflow_sub-unread : goal.overflow_sub-unread
-overflow_sub-unread c = ((let it : Fits c.loop-unread.unread (counted c.loop-unread.frames c.loop-unread.coders c.loop-unread.octets c.loop-unread.rate) c.in-Over.shape = loop_fits _ _ _ _ _ c.loop-unread.invariant.0 c.loop-unread-test.true (λ i. (c.type_inv.payload i).fits) _ c.in-Over.is c.next_frame-step.ensures in it)).wire
+overflow_sub-unread c =
+    let fits : Fits c.loop-unread.unread (counted c.loop-unread.frames c.loop-unread.coders c.loop-unread.octets c.loop-unread.rate) c.in-Over.shape = loop_fits _ _ _ _ _ c.loop-unread.invariant.0 c.loop-unread-test.true (λ i. (c.type_inv.payload i).fits) _ c.in-Over.is c.next_frame-step.ensures in
+    fits.wire
 
 pub overflow_add-octets : goal.overflow_add-octets
-overflow_add-octets c = let f = ((let it : Fits c.loop-unread.unread (counted c.loop-unread.frames c.loop-unread.coders c.loop-unread.octets c.loop-unread.rate) c.in-Over.shape = loop_fits _ _ _ _ _ c.loop-unread.invariant.0 c.loop-unread-test.true (λ i. (c.type_inv.payload i).fits) _ c.in-Over.is c.next_frame-step.ensures in it)).add.octets in omega arith
+overflow_add-octets c =
+    let fits : Fits c.loop-unread.unread (counted c.loop-unread.frames c.loop-unread.coders c.loop-unread.octets c.loop-unread.rate) c.in-Over.shape = loop_fits _ _ _ _ _ c.loop-unread.invariant.0 c.loop-unread-test.true (λ i. (c.type_inv.payload i).fits) _ c.in-Over.is c.next_frame-step.ensures in
+    let f = fits.add.octets in omega arith
 
 pub loop-unread-preserved-then-shape-ne0 : goal.loop-unread-preserved-then-shape-ne0
 loop-unread-preserved-then-shape-ne0 c =

@@ -13,7 +13,9 @@ pub returns-in-Refused : goal.returns-in-Refused
 returns-in-Refused c = absurd (ends_never _ _ _ _ _ c.loop-at.invariant c.loop-at-test.true c.row_at-named.ensures _ c.in-Refused.is)
 
 pub bounds-bodies-end : goal.bounds-bodies-end
-bounds-bodies-end c = let b = (let it : BodyAt c.args.bodies.now c.loop-at.from c.shape_of-shape.result = body_at _ _ _ _ _ c.loop-at.invariant c.loop-at-test.true c.row_at-named.ensures _ c.in-Passes.is c.shape_of-shape.ensures in it) in omega arith
+bounds-bodies-end c =
+    let body : BodyAt c.args.bodies.now c.loop-at.from c.shape_of-shape.result = body_at _ _ _ _ _ c.loop-at.invariant c.loop-at-test.true c.row_at-named.ensures _ c.in-Passes.is c.shape_of-shape.ensures in
+    let b = body in omega arith
 
 pub returns-then-shape-bodies : goal.returns-then-shape-bodies
 returns-then-shape-bodies c = ends_bad _ _ _ _ _ c.loop-at.invariant c.loop-at-test.true c.row_at-named.ensures _ c.in-Passes.is c.shape_of-shape.ensures c.if-shape-bodies.true
