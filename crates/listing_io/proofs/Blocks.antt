@@ -1,11 +1,10 @@
 -- What the loop over a block keeps: from the octets that are left the run comes to where it comes from the start.
-use mathlib.Core.Path.{◌≡◌, refl, sym, ap, ◌∙◌}
-use mathlib.Core.Bool.{true, false}
+use mathlib.Core.Path.{◌≡◌, sym, ap, ◌∙◌}
 use mathlib.Core.List.{List, [], append-nil}
 use mathlib.Core.Option.{none}
 use Prim.Native.Nat.{ℕ, ◌+◌, ◌-◌, ◌≤◌, ◌<◌}
 use native.Mathlib.Omega.{arith}
-use lib.ListN.{length, take, drop, length-drop, drop_of_length-le}
+use lib.ListN.{length, take, drop, length-drop}
 use lib.Seq.{take_all, drop-drop}
 use Rattle.listing.specs.Listing.{Stage, run, state_of, started}
 use Rattle.listing.specs.Answers.{ListsPart}
@@ -13,9 +12,8 @@ use Rattle.listing.specs.declared.State.{State}
 use Rattle.listing.specs.declared.Progress.{Progress}
 use Rattle.listing.specs.declared.Listed.{Listed}
 use Rattle.listing.specs.declared.Listed.TheVariants as listed
-use Rattle.listing.proofs.Answering.{part_taken, part_some, part_fits}
+use Rattle.listing.proofs.Answering.{part_taken, part_some}
 use Rattle.listing.proofs.Joined.{part-run}
-use Rattle.listing_io.specs.Block.{ListsBlock}
 
 -- what is carried behind all of some octets
 pub record Carried : Type 0 where
@@ -31,9 +29,6 @@ pub record Kept (s₀ : State) (input b₀ o₀ : List ℕ) (s : State) (b o : L
   pub o_long : length o ≡ length o₀
   pub same : carried (run none (started s₀ b₀) input) ≡ carried (run none (started s b) (drop from input))
 
-pub kept_start : (s : State) (input b o : List ℕ) → Kept s input b o s b o 0
-kept_start s input b o = record { upto = omega arith; b_long = refl; o_long = refl; same = refl }
-
 module _ {s₀ : State} {input b₀ o₀ : List ℕ} {s : State} {b o : List ℕ} {from : ℕ} (k : Kept s₀ input b₀ o₀ s b o from) where
   -- a call is answered, over the octets that are left
   module _ {b' o' : List ℕ} {r : Listed} (g : ListsPart s (take (length input - from) (drop from input)) b o r b' o') {p : Progress} (e : r ≡ listed.Part p) where
@@ -46,9 +41,6 @@ module _ {s₀ : State} {input b₀ o₀ : List ℕ} {s : State} {b o : List ℕ
     pub kept_some : from < length input → 1 ≤ p.taken
     kept_some h = part_some part (omega (arith, length-drop from input))
 
-    pub kept_written : length o' ≡ length o → p.written ≤ length o'
-    kept_written l = omega (arith, part_fits part l)
-
     pub kept_step : length b' ≡ length b → length o' ≡ length o → Kept s₀ input b₀ o₀ p.state b' o' (from + p.taken)
     kept_step lb lo = record {
       upto = kept_upto;
@@ -60,16 +52,3 @@ module _ {s₀ : State} {input b₀ o₀ : List ℕ} {s : State} {b o : List ℕ
           ∙ ap carried (part-run part [])
           ∙ ap (λ (zs : List ℕ). carried (run none (started p.state b') zs)) (append-nil (drop p.taken (drop from input)) ∙ drop-drop p.taken from input);
     }
-
-  -- all is listed
-  pub kept_all : length input ≤ from → ListsBlock s₀ input b₀ (record { state = s; is_written = true }) b
-  kept_all h =
-      let e = sym (k.same ∙ ap (λ (ys : List ℕ). carried (run none (started s b) ys)) (drop_of_length-le input {i = from} h)) in
-      record { state = λ w. ap (λ (c : Carried). c.state) e; payload = λ w. ap (λ (c : Carried). c.buffer) e }
-
--- where some lines are not written nothing is promised
-pub not_written : (s₀ : State) (input b₀ : List ℕ) (s : State) (b : List ℕ) → ListsBlock s₀ input b₀ (record { state = s; is_written = false }) b
-not_written s₀ input b₀ s b = record { state = λ w. absurd (never w); payload = λ w. absurd (never w) }
-  where
-    never : false ≡ true → ⊥
-    never w = let z : ◌≡◌ {A = ℕ} 0 1 = cc in omega arith

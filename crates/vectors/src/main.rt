@@ -20,50 +20,53 @@ mod time_cases;
 mod view_cases;
 mod write_cases;
 
-use libc::STDIN_FILENO;
+use std::io::{Read, Stdin, Stdout};
 use text::Form;
 use wire::Session;
 
 // The most numbers in front of a colon: those of a case to write, its room and 375 rows.
 const MOST_NUMBERS: usize = 751;
 
+// The most octets of the input.
+const MOST_INPUT: usize = 65536;
+
 // Runs a case by its name, the numbers in front of the colon and the text behind it.
-fn run_case(name: &[u8], head: &[usize], data: &[u8]) {
-    if check::same(name, b"read") {
-        read_cases::read(Session::NotAgreed, head, data);
-    } else if check::same(name, b"view") {
-        view_cases::view(Session::NotAgreed, head, data);
-    } else if check::same(name, b"write") {
-        write_cases::write(Session::NotAgreed, head, data);
-    } else if check::same(name, b"session_read") {
-        session_cases::read(head, data);
-    } else if check::same(name, b"session_view") {
-        session_cases::view(head, data);
-    } else if check::same(name, b"session_write") {
-        session_cases::write(head, data);
-    } else if check::same(name, b"settings_read") {
-        settings_cases::read(data);
-    } else if check::same(name, b"settings_write") {
-        settings_cases::write(head, data);
-    } else if check::same(name, b"unpack") {
-        fields_cases::unpack(head, data);
-    } else if check::same(name, b"pack") {
-        fields_cases::pack(head, data);
-    } else if check::same(name, b"list") {
-        list_cases::list(data);
-    } else if check::same(name, b"entry") {
-        journal_cases::entry(head, data);
-    } else if check::same(name, b"entry_write") {
-        journal_cases::write(head, data);
-    } else if check::same(name, b"record") {
-        record_cases::record(head, data);
+fn run_case(stdout: Stdout, name: &[u8], head: &[usize], data: &[u8]) {
+    if name == b"read".as_slice() {
+        read_cases::read(stdout, Session::NotAgreed, head, data);
+    } else if name == b"view".as_slice() {
+        view_cases::view(stdout, Session::NotAgreed, head, data);
+    } else if name == b"write".as_slice() {
+        write_cases::write(stdout, Session::NotAgreed, head, data);
+    } else if name == b"session_read".as_slice() {
+        session_cases::read(stdout, head, data);
+    } else if name == b"session_view".as_slice() {
+        session_cases::view(stdout, head, data);
+    } else if name == b"session_write".as_slice() {
+        session_cases::write(stdout, head, data);
+    } else if name == b"settings_read".as_slice() {
+        settings_cases::read(stdout, data);
+    } else if name == b"settings_write".as_slice() {
+        settings_cases::write(stdout, head, data);
+    } else if name == b"unpack".as_slice() {
+        fields_cases::unpack(stdout, head, data);
+    } else if name == b"pack".as_slice() {
+        fields_cases::pack(stdout, head, data);
+    } else if name == b"list".as_slice() {
+        list_cases::list(stdout, data);
+    } else if name == b"entry".as_slice() {
+        journal_cases::entry(stdout, head, data);
+    } else if name == b"entry_write".as_slice() {
+        journal_cases::write(stdout, head, data);
+    } else if name == b"record".as_slice() {
+        record_cases::record(stdout, head, data);
     } else {
-        print::malformed();
+        print::malformed(stdout);
     }
 }
 
 // A case that has no colon is a time.
-fn run_line(line: &[u8]) {
+fn run_line(stdout: Stdout, line: &[u8]) {
     let colon = text::find(line, b':');
     let front = &line[0..colon];
     let end = text::find(front, b' ');
@@ -71,20 +74,20 @@ fn run_line(line: &[u8]) {
     let mut head = [0usize; MOST_NUMBERS];
     let n = text::values(&mut head, &front[end..], Form::Numbers);
     if MOST_NUMBERS < n {
-        print::malformed();
+        print::malformed(stdout);
     } else if colon < line.len() {
         let behind = colon + 1;
-        run_case(name, &head[0..n], &line[behind..]);
-    } else if check::same(name, b"time") {
-        time_cases::time(&head[0..n]);
+        run_case(stdout, name, &head[0..n], &line[behind..]);
+    } else if name == b"time".as_slice() {
+        time_cases::time(stdout, &head[0..n]);
     } else {
-        print::malformed();
+        print::malformed(stdout);
     }
 }
 
 // Octet i is in the line that starts at an index. Goes through the line if i is its end, and answers where the line of
 // octet i + 1 starts.
-fn end_line(input: &[u8], start: usize, i: usize) -> usize
+fn end_line(stdout: Stdout, input: &[u8], start: usize, i: usize) -> usize
     requires { (start ≤ i) × (i < length input.now) }
     ensures { result ≤ i + 1 }
 {
@@ -92,26 +95,41 @@ fn end_line(input: &[u8], start: usize, i: usize) -> usize
         return start;
     }
     let line = &input[start..i];
-    print::say(line);
+    print::say(stdout, line);
     if input[start] != b'#' {
-        print::say(b" ->");
-        run_line(line);
+        print::say(stdout, b" ->");
+        run_line(stdout, line);
     }
-    print::say(b"\n");
+    print::say(stdout, b"\n");
     i + 1
 }
 
-fn run_lines(input: &[u8]) {
+fn run_lines(stdout: Stdout, input: &[u8]) {
     let mut start = 0;
     let mut i = 0;
     while i < input.len() {
-        start = end_line(input, start, i);
+        start = end_line(stdout, input, start, i);
         i += 1;
     }
 }
 
-fn main() {
-    let mut input = io::large_buffer();
-    let n = io::read_full(STDIN_FILENO, &mut input);
-    run_lines(&input[..n]);
+// Fills in what the input gives, up to its end or to where it can't be read, and answers how many octets they are.
+fn read_full(stdin: Stdin, input: &mut [u8]) -> usize
+    ensures { result ≤ length input.new }
+{
+    let mut stdin = stdin;
+    let mut done = 0;
+    while done < input.len() {
+        match stdin.read(&mut input[done..]) {
+            Ok(0) | Err(_) => return done,
+            Ok(n) => done += n,
+        }
+    }
+    done
+}
+
+fn main(rt: HostRuntime) {
+    let mut input = [0u8; MOST_INPUT];
+    let n = read_full(rt.stdin(), &mut input);
+    run_lines(rt.stdout(), &input[..n]);
 }

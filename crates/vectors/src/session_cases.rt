@@ -1,5 +1,6 @@
 // Cases in a session: two numbers stand in front of those of the case, 1 where framing is agreed or 0 where it is not, and the rate.
 use crate::{print, read_cases, view_cases, write_cases};
+use std::io::Stdout;
 use wire::Session;
 
 // The session of a case, if its numbers give one.
@@ -27,26 +28,26 @@ fn behind(head: &[usize]) -> &[usize] {
     &head[2..]
 }
 
-pub(crate) fn read(head: &[usize], data: &[u8]) {
+pub(crate) fn read(stdout: Stdout, head: &[usize], data: &[u8]) {
     let given = session_in_front(head);
     match given {
-        InFront::Nothing => print::malformed(),
-        InFront::In(session) => read_cases::read(session, behind(head), data),
+        InFront::Nothing => print::malformed(stdout),
+        InFront::In(session) => read_cases::read(stdout, session, behind(head), data),
     }
 }
 
-pub(crate) fn write(head: &[usize], data: &[u8]) {
+pub(crate) fn write(stdout: Stdout, head: &[usize], data: &[u8]) {
     let given = session_in_front(head);
     match given {
-        InFront::Nothing => print::malformed(),
-        InFront::In(session) => write_cases::write(session, behind(head), data),
+        InFront::Nothing => print::malformed(stdout),
+        InFront::In(session) => write_cases::write(stdout, session, behind(head), data),
     }
 }
 
-pub(crate) fn view(head: &[usize], data: &[u8]) {
+pub(crate) fn view(stdout: Stdout, head: &[usize], data: &[u8]) {
     let given = session_in_front(head);
     match given {
-        InFront::Nothing => print::malformed(),
-        InFront::In(session) => view_cases::view(session, behind(head), data),
+        InFront::Nothing => print::malformed(stdout),
+        InFront::In(session) => view_cases::view(stdout, session, behind(head), data),
     }
 }

@@ -4,6 +4,7 @@ ghost use Rattle.std.specs.Prelude.{◌≤◌};
 use crate::lists::{BEHIND, MOST_PAYLOAD};
 use crate::text::Form;
 use crate::{lists, print};
+use std::io::Stdout;
 use wire::Session;
 use writer::Writing;
 
@@ -12,21 +13,28 @@ const MOST_NUMBERS: usize = 750;
 
 const MOST_OCTETS: usize = 1410;
 
-fn write_into(session: Session, rows: &[u16], bodies: &[u8], out: &mut [u8], octets: usize)
+fn write_into(
+    stdout: Stdout,
+    session: Session,
+    rows: &[u16],
+    bodies: &[u8],
+    out: &mut [u8],
+    octets: usize,
+)
     requires { octets ≤ 1410 }
 {
     let answer = writer::write(session, rows, bodies, lists::front_room(out, octets));
     match answer {
-        Writing::Refused(r) => print::refused(r),
-        Writing::Written(n) => print::number(n),
+        Writing::Refused(r) => print::refused(stdout, r),
+        Writing::Written(n) => print::number(stdout, n),
     }
-    print::say(b";");
-    print::octets(lists::front(out, octets + BEHIND));
+    print::say(stdout, b";");
+    print::octets(stdout, lists::front(out, octets + BEHIND));
 }
 
-pub(crate) fn write(session: Session, head: &[usize], data: &[u8]) {
+pub(crate) fn write(stdout: Stdout, session: Session, head: &[usize], data: &[u8]) {
     if head.len() < 1 {
-        print::malformed();
+        print::malformed(stdout);
         return;
     }
     let octets = head[0];
@@ -35,11 +43,12 @@ pub(crate) fn write(session: Session, head: &[usize], data: &[u8]) {
     let mut bodies = [0u8; MOST_PAYLOAD];
     let m = lists::octets(&mut bodies, data, Form::Octets);
     if MOST_NUMBERS < n || MOST_PAYLOAD < m || MOST_OCTETS < octets {
-        print::malformed();
+        print::malformed(stdout);
         return;
     }
     let mut out = [0xeeu8; MOST_OCTETS + BEHIND];
     write_into(
+        stdout,
         session,
         &rows[0..n],
         lists::front(&bodies, m),
