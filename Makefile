@@ -16,7 +16,7 @@ make TARGET, with
   vectors     the recorded cases in all their forms, from tests/cases
   fuzz        the fuzzer, for SECONDS=60 (needs clang)
   bench       the benchmark (ONLY=WORD: the lines that have the word; BEFORE=COMMIT: that commit's library beside it)
-  clean       removes target/, the proofs with it
+  clean       removes target/ and crates/*/out, the proofs with them
 What is proved is not proved again until it changes; from nothing that takes some minutes.
 MOULT_LIB=FILE and MOULT_LIST=FILE name another static library and listing program to test or install.
 endef
@@ -36,4 +36,4 @@ list: $(MOULT_LIST)
 	@$(MOULT_LIST) "$$LIST_IN"
 
 clean:
-	rm -rf target
+	rm -rf target crates/*/out

@@ -2,7 +2,7 @@
 # MOULT_LIB and MOULT_LIST name another build of the static library and of the listing program to test, measure or install.
 
 MOULT_LIB ?= target/staticlib/libmoult.a
-MOULT_LIST ?= target/bin/list
+MOULT_LIST ?= crates/list/out/list
 HOST_OUT := target/host
 C_FLAGS := -std=c11 -O2 -Wall -Wextra -Wpedantic -Werror -Iinclude
 CXX_FLAGS := -std=c++17 -O2 -Wall -Wextra -Wpedantic -Werror -Iinclude
@@ -18,7 +18,7 @@ space := $() $()
 
 # What is not built here, as words for make.
 GIVEN := $(if $(filter target/staticlib/libmoult.a,$(MOULT_LIB)),,MOULT_LIB=$(abspath $(MOULT_LIB))) \
-	$(if $(filter target/bin/list,$(MOULT_LIST)),,MOULT_LIST=$(abspath $(MOULT_LIST)))
+	$(if $(filter crates/list/out/list,$(MOULT_LIST)),,MOULT_LIST=$(abspath $(MOULT_LIST)))
 
 # rt is to run once at a time.
 .NOTPARALLEL:
@@ -39,18 +39,20 @@ $(HOST_OUT)/moult_lib: FORCE | $(HOST_OUT)
 # ---- the library and the listing program. What rt says goes to standard error.
 
 # files_of CRATE: what its proof depends on.
-files_of = crates.txt $(shell find /dev/null $(wildcard $(foreach crate,$(1) $(shell sed -n 's/^$(1)://p' crates.txt),\
+files_of = crates.txt $(shell find /dev/null $(wildcard $(foreach crate,$(1) $(shell sed -n 's/^$(1)\b[^:]*://p' crates.txt),\
 	$(foreach part,src specs proofs,crates/$(crate)/$(part)))) -type f)
 
 host: $(MOULT_LIB) $(MOULT_SO)
 	@echo $^
 
-target/staticlib/libmoult.a: $(call files_of,moult)
-	rt staticlib moult >&2
+target/staticlib/libmoult.a: $(call files_of,moult_c)
+	cd crates/moult_c && rt lib >&2
+	@mkdir -p $(@D)
+	@cp crates/moult_c/out/libmoult_c.a $@
 
-# rt leaves it as it is where nothing has changed but the files' times.
-target/bin/list: $(call files_of,list)
-	@rt check list >&2
+# rt runs it, too, and leaves it as it is where nothing has changed but the files' times.
+crates/list/out/list: $(call files_of,list)
+	@cd crates/list && rt run < /dev/null >&2
 	@touch $@
 
 # It exports moult.h's functions and needs the C library alone, for memcpy and memset.
@@ -178,14 +180,14 @@ $(HOST_OUT)/second_rust.o: $(wildcard second/rust/src/*.rs) | $(HOST_OUT)
 	rustc --edition 2024 --crate-name second --crate-type lib --cfg 'feature="abi"' --emit obj=$@ \
 		-C opt-level=3 -C codegen-units=1 -C panic=abort second/rust/src/lib.rs
 
-# BEFORE=COMMIT measures that commit's library beside ours, too. It is built, and proved, from the commit once.
-BEFORE_LIB := $(if $(BEFORE),target/before/$(BEFORE)/target/staticlib/libmoult.a)
+# BEFORE=COMMIT measures that commit's library beside ours, too, where it has crates/moult_c. It is built, and proved, from the commit
+# once: elsewhere, since rt ci takes no crates below target/.
+BEFORE_LIB := $(if $(BEFORE),target/before/$(BEFORE)/libmoult.a)
 
-target/before/%/target/staticlib/libmoult.a:
-	rm -rf target/before/$*
-	mkdir -p target/before/$*
-	git archive $* | tar -x -C target/before/$*
-	cd target/before/$* && rt staticlib moult >&2
+target/before/%/libmoult.a:
+	@mkdir -p $(@D)
+	folder=$$(mktemp -d) && trap 'rm -rf "$$folder"' EXIT && git archive $* | tar -x -C "$$folder" && \
+		(cd "$$folder/crates/moult_c" && rt lib >&2) && cp "$$folder/crates/moult_c/out/libmoult_c.a" $@
 
 $(HOST_OUT)/libplaces.a: bench/places.sh $(LINKED) $(BEFORE_LIB) $(HOST_OUT)/libsecond.a $(HOST_OUT)/second_rust.o
 	bench/places.sh $@ moult=moult:$(MOULT_LIB) c=second:$(HOST_OUT)/libsecond.a rust=rust:$(HOST_OUT)/second_rust.o \
@@ -209,10 +211,15 @@ $(LISTS)/before_%.o: | $(LISTS)
 
 .SECONDARY: $(LIST_PLACES:%=$(LISTS)/before_%.o)
 
-target/obj/list.o: target/bin/list ;
+# rt ci makes the program and may leave no object.
+LIST_O := crates/list/out/list.o
 
-$(LISTS)/rattle_%: target/obj/list.o $(LISTS)/before_%.o
-	gcc $^ $(RATTLE_HOME)/lib/libos_c.a -o $@
+$(LIST_O): crates/list/out/list
+	@[ -e $@ ] || (cd crates/list && rm -f out/list && rt run < /dev/null >&2)
+	@touch $@
+
+$(LISTS)/rattle_%: $(LIST_O) $(LISTS)/before_%.o
+	gcc $^ $(RATTLE_HOME)/c/libos_c.a $(RATTLE_HOME)/c/liblibc_c.a -o $@
 
 $(LISTS)/c_%: second/c/list.c $(HOST_OUT)/libsecond.a $(LISTS)/before_%.o
 	gcc $(SECOND_FLAGS) -D_GNU_SOURCE $^ -o $@
