@@ -6,7 +6,7 @@ include hosts/host.mk packaging/package.mk
 
 define HELP
 make TARGET, with
-  test        the gate: every proof from nothing, must-fail edits, recorded runs, then host-test
+  test        the gate: every proof, must-fail edits, recorded runs, then host-test
   list        lists a file of payloads, IN=FILE; without IN the sample
   host        the library: target/staticlib/libmoult.a and target/host/libmoult.so.$(MAJOR)
   install     header, libraries, list, moult.pc, CMake package and man pages into PREFIX ($(PREFIX))

@@ -1,3 +1,4 @@
+-- `fields::count_of` meets its contract: no width of a mode is 0, and those behind its last one are.
 use Rattle.std.proofs.Common.{arith}
 use Rattle.fields.proofs.Modes.{mode_count, counted, not_counted}
 use Rattle.fields.proofs.count_of.Goals as goal

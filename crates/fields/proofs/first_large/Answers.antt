@@ -1,3 +1,4 @@
+-- `fields::first_large` meets its contract: the fields that were passed fit.
 use Rattle.std.proofs.Common.{arith}
 use Rattle.fields.specs.Modes.{count_of}
 use Rattle.fields.proofs.Modes.{mode_count, width_most}

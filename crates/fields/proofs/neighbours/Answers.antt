@@ -1,3 +1,4 @@
+-- `fields::neighbours` meets its contract: the pairs that were passed, from the last one on, are made.
 use Rattle.fields.proofs.Unpacking.{paired_start, paired_small, paired_step}
 use Rattle.fields.proofs.neighbours.Goals as goal
 

@@ -1,3 +1,4 @@
+-- `fields::put_octets` meets its contract: the octets that were passed are put.
 use Rattle.std.proofs.Common.{arith}
 use Rattle.fields.proofs.Packing.{put_step, put_end}
 use Rattle.fields.proofs.put_octets.Goals as goal

@@ -1,3 +1,4 @@
+-- `fields::take_fields` meets its contract: the fields that were passed are filled.
 use Rattle.std.proofs.Common.{◌≡◌, true, List, [], map, ℕ, ◌+◌, ◌-◌, ◌≤◌, ◌<◌, length, get_or, arith}
 use Rattle.fields.specs.Modes.{is_mode, widths, table_of, count_of}
 use Rattle.fields.proofs.Modes.{padded, mode_from, mode_to, mode_row, mode_count, mode_bits, width_some, width_most}

@@ -1,3 +1,4 @@
+-- `fields::word_of_fields` meets its contract: the word has the bits of the fields that were passed.
 use Rattle.std.proofs.Common.{arith}
 use Rattle.fields.specs.Modes.{count_of}
 use Rattle.fields.proofs.Modes.{mode_count, mode_bits, width_most}

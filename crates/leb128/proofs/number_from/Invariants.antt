@@ -1,3 +1,4 @@
+-- `leb128::number_from` reads a number on, octet by octet.
 use Rattle.std.proofs.Common.{◌-◌, length}
 use Rattle.leb128.proofs.Heads.{Heads}
 use Rattle.leb128.proofs.number_from.Given as goal

@@ -1,3 +1,4 @@
+-- `leb128::put_groups` puts a number's octets: behind the index, those of the loop's rest are to come.
 use Rattle.leb128.proofs.Writing.{Writes}
 use Rattle.leb128.proofs.put_groups.Given as goal
 

@@ -1,3 +1,4 @@
+-- `leb128::size_of` counts a number's groups: the loop's rest has those that are not counted yet.
 use Rattle.leb128.proofs.Writing.{Counted}
 use Rattle.leb128.proofs.size_of.Given as goal
 

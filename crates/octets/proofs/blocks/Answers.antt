@@ -1,3 +1,4 @@
+-- `octets::blocks` copies blocks of 32 octets, the last of which may overlap.
 use Rattle.std.proofs.Common.{◌+◌, ◌-◌, refl, arith}
 use Rattle.octets.proofs.Copied.{joined}
 use Rattle.octets.proofs.blocks.Goals as goal

@@ -1,3 +1,4 @@
+-- `octets::blocks` copies blocks of 32 octets, the last of which may overlap.
 use Rattle.std.proofs.Common.{◌≡◌, ◌-◌, ◌≤◌, length}
 use Rattle.std.proofs.Math.Seq.{paste}
 use Rattle.octets.proofs.blocks.Given as goal

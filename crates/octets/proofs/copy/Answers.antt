@@ -1,3 +1,4 @@
+-- `octets::copy` copies as many octets as both slices have.
 use Rattle.octets.proofs.Copied.{whole}
 use Rattle.octets.proofs.copy.Goals as goal
 

@@ -1,3 +1,4 @@
+-- `octets::each` copies one octet after another.
 use Rattle.octets.proofs.Copied.{copied_step}
 use Rattle.octets.proofs.each.Goals as goal
 

@@ -1,3 +1,4 @@
+-- `octets::each` copies one octet after another.
 use Rattle.std.proofs.Common.{◌-◌}
 use Rattle.octets.proofs.Copied.{Copied}
 use Rattle.octets.proofs.each.Given as goal

@@ -1,3 +1,4 @@
+-- `octets::ends` copies two blocks that may overlap.
 use Rattle.std.proofs.Common.{◌-◌, arith}
 use Rattle.octets.proofs.Copied.{joined}
 use Rattle.octets.proofs.ends.Goals as goal

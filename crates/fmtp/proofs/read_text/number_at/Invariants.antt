@@ -1,3 +1,4 @@
+-- `fmtp::read_text::number_at` counts the digits from an index on, up to the first octet that is none.
 use Rattle.std.proofs.Common.{◌-◌, length, drop}
 use Rattle.fmtp.specs.Steps.{number_at}
 use Rattle.fmtp.proofs.Decimals.{Counted}

@@ -1,3 +1,4 @@
+-- `fmtp::read_text::starts` tells whether a word stands in the text from an index on.
 use Rattle.std.proofs.Common.{◌-◌, length}
 use Rattle.fmtp.proofs.Words.{Compared}
 use Rattle.fmtp.proofs.read_text.starts.Given as goal

@@ -1,3 +1,4 @@
+-- `fmtp::write_text::put` stores a word octet by octet.
 use Rattle.std.proofs.Common.{◌-◌, length}
 use Rattle.fmtp.proofs.Stores.{Storing}
 use Rattle.fmtp.proofs.write_text.put.Given as goal
