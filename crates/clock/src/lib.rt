@@ -2,91 +2,44 @@
 #![tactic(auto)]
 
 ghost use Rattle.std.specs.Prelude.{◌≡◌};
-ghost use Rattle.wire.specs.Walk.{read_of};
-ghost use Rattle.clock.specs.Time.{time_of, PacketTime, Ptime, unknown_ptime};
+ghost use Rattle.clock.specs.Time.{ticks_in, PacketTime, Ptime};
 
-use refusal::Refusal;
-use wire::{Framing, KnownFraming, Session, Summary, Walked};
-
-const MOST_FRAMES: usize = 200;
+use refusal::{Reason, Refusal};
+use wire::{Framing, MOST_FRAMES, Session, Summary};
 
 // Ticks of 1/8000 second.
-#[derive(Clone, Copy)]
+#[derive(Clone, Copy, Debug, PartialEq, Eq, PartialOrd, Ord, Hash)]
 pub struct Ticks(pub usize);
 
 // Milliseconds.
-#[derive(Clone, Copy)]
+#[derive(Clone, Copy, Debug, PartialEq, Eq, PartialOrd, Ord, Hash)]
 pub struct Millis(pub usize);
-
-// What a packet lasts, or why its payload was refused: never 0 ticks for a payload that could not be split.
-#[derive(Clone, Copy)]
-pub enum PacketTicks {
-    Lasts(Ticks),
-    Refused(Refusal),
-}
-
-// The ptime of some frames, or the refusal.
-#[derive(Clone, Copy)]
-pub enum PacketMillis {
-    Lasts(Millis),
-    Refused(Refusal),
-}
 
 // The ticks of what a payload holds.
 pub fn ticks_of(summary: Summary) -> Ticks
-    ensures { result ≡ record { 0 = summary.ticks } }
+    ensures { result ≡ ticks_in summary.ticks }
 {
     Ticks(summary.ticks as usize)
 }
 
-// The ticks of the payload's frames.
-fn packet_ticks_framed(framing: Framing, payload: &[u8]) -> PacketTicks
-    ensures { result ≡ time_of (read_of framing payload.now) }
-{
-    let walked = wire::walk(framing, payload);
-    match walked {
-        Walked::Whole(summary) => PacketTicks::Lasts(ticks_of(summary)),
-        Walked::Refused(refusal) => PacketTicks::Refused(refusal),
-    }
-}
-
-// The ticks of the payload's frames in a session. A rate that no session has is refused before all else.
-pub fn packet_ticks(session: Session, payload: &[u8]) -> PacketTicks
+// What a packet lasts in a session, or why its payload was refused: never 0 ticks for a payload that could not be split. A rate that no
+// session has is refused before all else.
+pub fn packet_ticks(session: Session, payload: &[u8]) -> Result<Ticks, Refusal>
     ensures { PacketTime session payload.now result }
 {
-    let known = wire::framing_of(session);
-    match known {
-        KnownFraming::Unknown => PacketTicks::Refused(Refusal {
-            number: refusal::UNKNOWN,
-            place: 0,
-        }),
-        KnownFraming::Is(framing) => packet_ticks_framed(framing, payload),
-    }
-}
-
-fn unknown() -> PacketMillis
-    ensures { result ≡ unknown_ptime }
-{
-    PacketMillis::Refused(Refusal {
-        number: refusal::UNKNOWN,
-        place: 0,
-    })
+    let framing = Framing::try_from(session)?;
+    let summary = wire::walk(framing, payload)?;
+    Ok(ticks_of(summary))
 }
 
 // The packet time of a number of frames at a rate, in whole milliseconds, rounded up.
-pub fn ptime(rate: u32, frames: usize) -> PacketMillis
+#[tactic(auto, using(crate::proofs::Times::rates_last), unfolding(crate::specs::Time::ptime_of))]
+pub fn ptime(rate: u32, frames: usize) -> Result<Millis, Refusal>
     ensures { Ptime rate frames result }
 {
     let ticks = wire::ticks_of_rate(rate) as usize;
-    if ticks == 0 {
-        return unknown();
+    if ticks == 0 || frames == 0 || MOST_FRAMES < frames {
+        return Err(Reason::Unknown.at(0));
     }
-    if frames == 0 {
-        return unknown();
-    }
-    if MOST_FRAMES < frames {
-        return unknown();
-    }
-    let millis = (frames * ticks + 7) / 8;
-    PacketMillis::Lasts(Millis(millis))
+    Ok(Millis((frames * ticks).div_ceil(8)))
 }

@@ -88,7 +88,7 @@ drop-digits zero w v = ap (λ (n : ℕ). digits n v) (zero-add w)
 drop-digits (suc k) w v = ap (λ (n : ℕ). drop (suc k) (digits n v)) (suc-add k w) ∙ drop-digits k w v
 
 -- bits in front of others
-take-digits : (w k v : ℕ) → take w (digits (w + k) v) ≡ digits w (v / 2 ^ k)
+pub take-digits : (w k v : ℕ) → take w (digits (w + k) v) ≡ digits w (v / 2 ^ k)
 unfolding digits
 take-digits zero k v = refl
 take-digits (suc w) k v =

@@ -9,6 +9,7 @@ use native.Mathlib.Omega.{arith}
 use lib.ListN.{length, get_or, take, drop, length-append, length-reverse, length-take, length-drop, take-append-drop, get_or-append}
 use lib.Seq.{take_at, drop_at, drop-drop, get_or-append-add, get_or-drop, length-take-le}
 use lib.Pow.{pow_mono}
+use Rattle.std.proofs.lemmas.List.{take-take, drop-take}
 use Rattle.fields.specs.Bits.{digits, spelled, bits_of, octets_of}
 use Rattle.fields.proofs.Digits.{Bits, length_digits, bits-digits, bits_tail, spelled_lt, spelled-digits, digits-spelled, digits_at}
 
@@ -115,3 +116,11 @@ octet_at (suc n) bs zero h = refl
 octet_at (suc n) bs (suc i) h =
     let e : 8 + 8 * i ≡ 8 * suc i = omega arith in
     octet_at n (drop 8 bs) i (omega arith) ∙ ap (λ (l : List ℕ). spelled (reverse (take 8 l))) (drop-drop (8 * i) 8 bs ∙ ap (λ (k : ℕ). drop k bs) e)
+
+-- octets are made of the first bits alone
+pub octets-take : (n : ℕ) (bs : List ℕ) → octets_of n (take (8 * n) bs) ≡ octets_of n bs
+unfolding octets_of
+octets-take zero bs = refl
+octets-take (suc n) bs =
+    let e : 8 * suc n ≡ 8 + 8 * n = omega arith in
+    rw (e, take-take 8 (8 + 8 * n) bs (omega arith), drop-take 8 (8 * n) bs, octets-take n (drop 8 bs))

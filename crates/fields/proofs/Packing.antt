@@ -1,57 +1,23 @@
--- What the loops of the packer keep: the one that seeks the first field that is too large, the one that makes a word of the fields' bits,
--- and the one that puts the word's octets.
+-- What the loop of the packer keeps that makes a word of the fields' bits, and the body of a word.
 use mathlib.Core.Path.{◌≡◌, refl, sym, ap, ◌∙◌}
-use mathlib.Core.Bool.{Bool, true, false, cond}
-use mathlib.Core.List.{List, [], ◌∷◌, ◌++◌, flatten, reverse, append_assoc, append-nil}
-use Prim.Native.Nat.{ℕ, zero, suc, ◌+◌, ◌-◌, ◌*◌, ◌/◌, ◌%◌, ◌^◌, ◌≤◌, ◌<◌}
-use native.Mathlib.Nat.{mod-eq_of_lt, div-lt_iff_lt-mul, le-div_iff_mul-le, lt_of_lt_of_le}
+use mathlib.Core.List.{List, [], ◌∷◌, ◌++◌, flatten, append_assoc, append-nil}
+use Prim.Native.Nat.{ℕ, zero, suc, ◌+◌, ◌*◌, ◌/◌, ◌%◌, ◌^◌, ◌≤◌, ◌<◌}
+use native.Mathlib.Nat.{mod-eq_of_lt, lt_of_lt_of_le}
 use native.Mathlib.Numerals.{add-one}
 use native.Mathlib.Omega.{arith}
-use borrow.Author.Tests.{lt-ltb, le-ltb}
-use lib.Dec.{ltb}
-use lib.ListN.{length, get_or, set, take, drop, length-append, drop_of_length-le}
+use lib.ListN.{length, get_or, take, drop, length-append}
 use lib.Arith.{digits_lt}
-use lib.Pow.{pow_pos, pow-add, pow_mono, shl_exact}
-use lib.Seq.{drop-cons}
+use lib.Pow.{pow-add, pow_mono, shl_exact}
+use lib.Seq.{take_all}
 use Rattle.fields.specs.Bits.{digits, spelled, octets_of}
-use Rattle.fields.specs.Table.{Table, field_bits, placed, body_of, first_large, run}
+use Rattle.fields.specs.Table.{Table, field_bits, placed, body_of, run}
 use Rattle.fields.specs.RoundTrip.{Fitting}
-use Rattle.fields.proofs.Digits.{length_digits, digits-part, digits_mod, digits-spelled, spelled-append, spelled-digits, spelled_lt}
-use Rattle.fields.proofs.Filled.{Filled, filled_step, filled_end}
-use Rattle.fields.proofs.Octets.{length_octets, octet_at}
+use Rattle.fields.proofs.Digits.{length_digits, take-digits, digits-spelled, spelled-append, spelled-digits, spelled_lt}
+use Rattle.fields.proofs.Octets.{octets-take}
 use Rattle.fields.proofs.Placed.{placed-run}
 use Rattle.fields.proofs.RoundTrip.{zeros, packed_bits}
 use Rattle.fields.proofs.Runs.{length_run}
 use Rattle.fields.proofs.Tables.{length-field_bits, bits-field_bits, front_step, front_le}
-
--- ---- the first field that is too large
-
--- it lies as far behind i as in what is left
-pub record Seeking (table : Table) (fields : List ℕ) (i : ℕ) : Type 0 where
-  pub ahead : i + first_large (drop i table) (drop i fields) ≡ first_large table fields
-
-module _ (table : Table) (fields : List ℕ) where
-  module _ (i : ℕ) (h : Seeking table fields i) (size : length fields ≡ length table) where
-    module _ (l : i < length table) {w : ℕ} (e : w ≡ length (get_or table i [])) where
-      next : (b : Bool) → ltb (get_or fields i 0) (2 ^ w) ≡ b → i + cond b (suc (first_large (drop (suc i) table) (drop (suc i) fields))) 0 ≡ first_large table fields
-      unfolding first_large
-      next b t = rw (sym t, e) (rw (drop-cons table i [] l, drop-cons fields i 0 (omega arith)) at h.ahead)
-
-      -- the field has no bit above its width
-      pub seeking_step : get_or fields i 0 / 2 ^ w ≡ 0 → Seeking table fields (i + 1)
-      seeking_step z =
-          let s : get_or fields i 0 < 1 * 2 ^ w = (div-lt_iff_lt-mul (pow_pos w)).0 (omega arith) in
-          record { ahead = rw (add-one i) (omega (arith, next true (lt-ltb (get_or fields i 0) (2 ^ w) (omega arith)))) }
-
-      -- the field has one
-      pub seeking_here : (get_or fields i 0 / 2 ^ w ≡ 0 → ⊥) → i ≡ first_large table fields
-      seeking_here z =
-          let s : 1 * 2 ^ w ≤ get_or fields i 0 = (le-div_iff_mul-le (pow_pos w)).0 (omega arith) in
-          omega (arith, next false (le-ltb (get_or fields i 0) (2 ^ w) (omega arith)))
-
-    pub seeking_end : length table ≤ i → i ≡ first_large table fields
-    unfolding first_large
-    seeking_end l = omega (arith, rw (drop_of_length-le table {i = i} l) at h.ahead)
 
 -- ---- the word of fields
 
@@ -100,29 +66,8 @@ module _ (table : Table) (fields : List ℕ) where
         small = rw (shifted, add-one i, front_step table i l, sym e) small;
       }
 
--- ---- the octets of a word
-
--- the octets that were passed are put; left bits are below those that were passed
-pub record OctetsPut (word : ℕ) (old now : List ℕ) (left i : ℕ) : Type 0 where
-  pub below : left + 8 * i ≡ 56
-  pub fills : Filled (octets_of 7 (digits 56 word)) old now i
-
-module _ (word : ℕ) (old : List ℕ) where
-  module _ (now : List ℕ) (left i : ℕ) (h : OctetsPut word old now left i) (size : length old ≡ 7) where
-    same : length (octets_of 7 (digits 56 word)) ≡ length old
-    same = length_octets 7 (digits 56 word) ∙ sym size
-
-    pub put_step : i < 7 → {v : ℕ} → v ≡ spelled (reverse (digits 8 (word / 2 ^ (left - 8) % 256))) → OctetsPut word old (set now i v) (left - 8) (i + 1)
-    put_step l {v} e = record {
-      below = omega (arith, h.below);
-      fills =
-          filled_step (octets_of 7 (digits 56 word)) old now i h.fills same (omega (arith, same))
-          (e ∙ ap (λ (ds : List ℕ). spelled (reverse ds)) (digits_mod 8 (word / 2 ^ (left - 8)) ∙ sym (digits-part 56 word (8 * i) 8 (left - 8) (omega (arith, h.below))))
-          ∙ sym (octet_at 7 (digits 56 word) i l));
-    }
-
-    pub put_end : 7 ≤ i → now ≡ octets_of 7 (digits 56 word)
-    put_end l = filled_end (octets_of 7 (digits 56 word)) old now i h.fills same (omega (arith, same))
+    pub joined_end : length table ≤ i → word ≡ spelled (field_bits table fields)
+    joined_end l = rw (take_all i table l, take_all i fields (omega (arith, fit.as_many))) at h.spells
 
 -- ---- the body of a word
 
@@ -131,7 +76,7 @@ module _ (table : Table) (fields : List ℕ) (order : flatten table ≡ run 0 54
   length-bits : length (field_bits table fields) ≡ 54
   length-bits = length-field_bits table fields size ∙ ap length order ∙ length_run 0 54
 
-  pub word_small : word < 2 ^ 54
+  word_small : word < 2 ^ 54
   word_small = rw e (rw length-bits at (spelled_lt (field_bits table fields) (bits-field_bits table fields)))
 
   -- and with two that are 0 behind them, those of the body
@@ -146,10 +91,15 @@ module _ (table : Table) (fields : List ℕ) (order : flatten table ≡ run 0 54
       ap (λ (ps : List ℕ). placed ps (field_bits table fields) zeros) (order ∙ ap (run 0) (sym length-bits))
       ∙ placed-run [] (field_bits table fields) zeros (omega (arith, length-bits)) ∙ ap (λ (n : ℕ). field_bits table fields ++ drop n zeros) length-bits
 
-  pub word_body : octets_of 7 (digits 56 (word * 4)) ≡ body_of table fields
-  unfolding body_of spelled
+  -- they are the first of the 64 of the word, which ten that are 0 follow
+  first_bits : take 56 (digits 64 (word * 2 ^ 10)) ≡ bits
+  unfolding spelled
+  first_bits =
+      let four : word * 2 ^ 10 / 2 ^ 8 ≡ spelled bits = omega (arith, e, spelled-append (field_bits table fields) (0 ∷ 0 ∷ [])) in
+      take-digits 56 8 (word * 2 ^ 10) ∙ ap (digits 56) four ∙ ap (λ (n : ℕ). digits n (spelled bits)) (sym length_all)
+      ∙ digits-spelled bits (rw (sym all_placed) (packed_bits table fields refl))
+
+  pub word_body : octets_of 7 (digits 64 (word * 2 ^ 10 % 2 ^ 64)) ≡ body_of table fields
+  unfolding body_of
   word_body =
-      let four : word * 4 ≡ spelled bits = omega (arith, e, spelled-append (field_bits table fields) (0 ∷ 0 ∷ [])) in
-      ap (octets_of 7)
-      (ap (digits 56) four ∙ ap (λ (n : ℕ). digits n (spelled bits)) (sym length_all)
-      ∙ digits-spelled bits (rw (sym all_placed) (packed_bits table fields refl)) ∙ sym all_placed)
+      rw (shl_exact 54 10 64 word_small (omega arith)) (sym (octets-take 7 (digits 64 (word * 2 ^ 10))) ∙ ap (octets_of 7) (first_bits ∙ sym all_placed))

@@ -6,13 +6,13 @@ use Prim.Native.Nat.{ℕ, ◌≤◌, ◌<◌}
 use native.Mathlib.Omega.{arith}
 use lib.ListN.{length, get_or, take, drop}
 use lib.Seq.{take_at}
-use Rattle.refusal.specs.Report.{Report, accepted}
-use Rattle.fields.specs.declared.Unpacked.{Unpacked}
-use Rattle.fields.specs.declared.Packed.{Packed}
+use Rattle.std.specs.Prelude.{Result}
+use Rattle.refusal.specs.Report.{Report, accepted, report_of}
+use Rattle.refusal.specs.declared.Refusal.{Refusal}
 use Rattle.fields.specs.Bits.{digits, spelled, bits_of, octets_of}
 use Rattle.fields.specs.Table.{field_of, fields_of, field_bits, placed, body_of, first_large, run, consecutive}
 use Rattle.fields.specs.Modes.{is_mode, widths, widths_of, table_of, count_of}
-use Rattle.fields.specs.Answers.{unpacked_report, packed_report, unpacking, packing, Unpacks, Packs}
+use Rattle.fields.specs.Answers.{unpacking, packing, Unpacks, Packs}
 use Rattle.fields.specs.RoundTrip.{Fitting, RoundTrip}
 use Rattle.fields.specs.Examples.{Examples}
 use Rattle.fields.proofs.Answers.{accepted_fills, Unpackable, unpackable_accepted, accepted_unpackable, Packable, packable_accepted, accepted_packable}
@@ -28,9 +28,9 @@ number_of : {report other : Report ℕ} → report ≡ other → report.number �
 number_of e h = ap (λ (r : Report ℕ). r.number) (sym e) ∙ h
 
 -- a body that `unpack` accepted comes back from its fields
-pub unpacked_packed : (mode : ℕ) (body before after : List ℕ) (r : Unpacked) → Unpacks mode body before after r → (unpacked_report r).number ≡ 0
-    → ((i : ℕ) → get_or body i 0 < 256) → (out left : List ℕ) (s : Packed) → Packs mode (take (count_of mode) after) out left s → 7 ≤ length out
-    → (packed_report s ≡ accepted 7) × (left ≡ body ++ drop 7 out)
+pub unpacked_packed : (mode : ℕ) (body before after : List ℕ) (r : Result ℕ Refusal) → Unpacks mode body before after r → (report_of 0 r).number ≡ 0
+    → ((i : ℕ) → get_or body i 0 < 256) → (out left : List ℕ) (s : Result ℕ Refusal) → Packs mode (take (count_of mode) after) out left s → 7 ≤ length out
+    → (report_of 0 s ≡ accepted 7) × (left ≡ body ++ drop 7 out)
 unfolding count_of
 unpacked_packed mode body before after r u h octets out left s k room =
     let a : Unpackable mode body (length before) = accepted_unpackable mode body (length before) (number_of u.answer h) in
@@ -52,9 +52,9 @@ unpacked_packed mode body before after r u h octets out left s k room =
     (k.answer ∙ p, k.octets ∙ accepted_fills 7 (body_of (table_of mode) (take (count_of mode) after)) out p ∙ rw (first, again))
 
 -- fields that `pack` accepted come back from their body
-pub packed_unpacked : (mode : ℕ) (fields out left : List ℕ) (r : Packed) → Packs mode fields out left r → (packed_report r).number ≡ 0
-    → (before after : List ℕ) (s : Unpacked) → Unpacks mode (take 7 left) before after s → count_of mode ≤ length before
-    → (unpacked_report s ≡ accepted (count_of mode)) × (after ≡ fields ++ drop (count_of mode) before)
+pub packed_unpacked : (mode : ℕ) (fields out left : List ℕ) (r : Result ℕ Refusal) → Packs mode fields out left r → (report_of 0 r).number ≡ 0
+    → (before after : List ℕ) (s : Result ℕ Refusal) → Unpacks mode (take 7 left) before after s → count_of mode ≤ length before
+    → (report_of 0 s ≡ accepted (count_of mode)) × (after ≡ fields ++ drop (count_of mode) before)
 unfolding count_of
 packed_unpacked mode fields out left r k h before after s u room =
     let a : Packable mode fields (length out) = accepted_packable mode fields (length out) (number_of k.answer h) in

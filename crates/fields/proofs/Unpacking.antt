@@ -9,6 +9,7 @@ use borrow.Author.Tests.{eqb-true}
 use lib.Bits.{bit_and, and_mask}
 use lib.Dec.{eqb}
 use lib.ListN.{length, get_or, set, replicate, take, length-set, length-map, get_or-map, get_or-eq_default}
+use lib.Pow.{field, shl-shr, shr-shr}
 use lib.Seq.{get_or-set_same, get_or-set_other}
 use Rattle.fields.specs.Bits.{digits, spelled, bits_of}
 use Rattle.fields.specs.Table.{Table, field_of, fields_of, run}
@@ -118,7 +119,7 @@ module _ (body : List ℕ) where
 
 -- ---- fields of pairs
 
--- the code's table: numbers whose lowest bits are 1
+-- the lowest bits of a number by a mask, as fields were taken before they were shifted (docs/changes/02-unpacking.md)
 abbrev pub lowest : List ℕ
 lowest = 0 ∷ 1 ∷ 3 ∷ 7 ∷ 15 ∷ 31 ∷ 63 ∷ 127 ∷ 255 ∷ 511 ∷ []
 
@@ -126,6 +127,16 @@ pub masked : (v w : ℕ) → w ≤ 9 → bit_and v (get_or lowest w 0) ≡ v % 2
 unfolding run
 masked v w h =
     ap (bit_and v) (eqb-true (get_or lowest w 0) (2 ^ w - 1) (every_below (λ (n : ℕ). eqb (get_or lowest n 0) (2 ^ n - 1)) 10 refl w (omega arith))) ∙ and_mask v w
+
+-- bits in front of a field and behind it, shifted away
+pub shifted : (v before w j : ℕ) → before + (w + j) ≡ 16 → v * 2 ^ before % 2 ^ 16 / 2 ^ (16 - w) ≡ v / 2 ^ j % 2 ^ w
+shifted v before w j e =
+    let all : 16 ≡ w + (before + j) = omega arith in
+    let behind : 16 - w ≡ before + j = omega arith in
+    ap (λ (n : ℕ). v * 2 ^ before % 2 ^ n / 2 ^ (16 - w)) all
+    ∙ ap (λ (n : ℕ). v * 2 ^ before % 2 ^ (w + (before + j)) / 2 ^ n) behind
+    ∙ field (v * 2 ^ before) w (before + j)
+    ∙ ap (λ (n : ℕ). n % 2 ^ w) (sym (shr-shr (v * 2 ^ before) before j) ∙ ap (λ (n : ℕ). n / 2 ^ j) (shl-shr v before))
 
 -- the fields that were passed are filled, and they have the bits in front of at
 pub record FieldsTaken (table : Table) (body old now : List ℕ) (at i : ℕ) : Type 0 where

@@ -3,4 +3,5 @@ pub mod Table
 pub mod Modes
 pub mod Answers
 pub mod RoundTrip
+pub mod Widths
 pub mod Examples

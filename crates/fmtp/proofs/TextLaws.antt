@@ -1,16 +1,14 @@
 -- The text of settings: it means them, its length, and the longest text.
-use mathlib.Core.Path.{◌≡◌, refl, ap}
-use mathlib.Core.Bool.{true}
-use mathlib.Core.List.{List, ◌∷◌, ◌++◌, map}
-use Prim.Native.Nat.{ℕ, ◌+◌, ◌≤◌}
-use native.Mathlib.Omega.{arith}
-use lib.ListN.{length, length-append}
+use Rattle.std.proofs.Common.{◌≡◌, ◌+◌, ◌≤◌, ℕ, List, ◌∷◌, ◌++◌, map, length, decimal, true, refl, ap, arith, length-append}
+use Rattle.std.proofs.lemmas.Fmt.{length-decimal-le}
+use Rattle.std.specs.Char.{to_ascii_lowercase}
+use Rattle.std.specs.Fmt.{digits}
 use Rattle.fmtp.specs.declared.Settings.{Settings}
 use Rattle.fmtp.specs.Settings.{is_rate, are_rates, is_tcmax, IsSettings}
-use Rattle.fmtp.specs.Text.{lower, bitrate_name, tcmax_name, equals, digits, decimal, further_text, rates_text, text_of, missing_rate, missing_tcmax}
+use Rattle.fmtp.specs.Text.{bitrate_name, tcmax_name, equals, further_text, rates_text, text_of, missing_rate, missing_tcmax}
 use Rattle.fmtp.specs.Means.{Spelled, Means, neither, bitrate, tcmax, bitrate_tcmax, tcmax_bitrate}
-use Rattle.fmtp.proofs.SettingsLaws.{Rate, bps2400, bps1200, bps600, rate_cases, rate_pos, Rates, one, two, three, rates_cases, tcmax_range, settings_parts, settings_whole}
-use Rattle.fmtp.proofs.Decimals.{further_none, further_some, tcmax_long}
+use Rattle.fmtp.proofs.SettingsLaws.{Rate, bps2400, bps1200, bps600, rate_cases, rate_range, Rates, one, two, three, rates_cases, tcmax_range, settings_parts, settings_whole}
+use Rattle.fmtp.proofs.Decimals.{further_none, further_some}
 
 -- ---- what is meant are settings
 
@@ -31,11 +29,11 @@ means_settings (tcmax_bitrate i j) = settings_whole _ _ _ _ j.rates i.number
 
 -- ---- the text of settings means them
 
-plain : (name value : List ℕ) → map lower name ≡ name → Spelled name value (name ++ (equals ∷ value))
+plain : (name value : List ℕ) → map to_ascii_lowercase name ≡ name → Spelled name value (name ++ (equals ∷ value))
 plain name value e = record { spelling = name; folds = e; text = refl }
 
 pub written_means : (s : Settings) → IsSettings s → Means (text_of s) s
-unfolding text_of lower
+unfolding text_of
 written_means s i =
     let p = settings_parts s i in
     bitrate_tcmax
@@ -58,7 +56,7 @@ data Width : ℕ → ℕ → Type 0 where
   short600 : Width 600 3
 
 width : (r : ℕ) → is_rate r ≡ true → Width r (length (decimal r))
-unfolding decimal digits
+unfolding digits
 width r h = go (rate_cases r h)
   where
     go : {r : ℕ} → Rate r → Width r (length (decimal r))
@@ -86,7 +84,7 @@ three_most ab ac bc long1200 long2400 long1200 = absurd (ac refl)
 three_most ab ac bc long1200 long2400 short600 = omega arith
 
 pub further_long : (r : ℕ) → is_rate r ≡ true → length (further_text r) ≡ 1 + length (decimal r)
-further_long r h = omega (arith, ap length (further_some r (λ e. omega (arith, rate_pos r h))))
+further_long r h = omega (arith, ap length (further_some r (λ e. omega (arith, (rate_range r h).0))))
 
 rates_most : {a b c : ℕ} → Rates a b c → length (decimal a) + length (further_text b) + length (further_text c) ≤ 13
 rates_most (one {a = a} ra) = omega (arith, width_most (width a ra), ap length (further_none 0 refl))
@@ -98,4 +96,4 @@ rates_most (three {a = a} {b = b} {c = c} ra rb rc ab ac bc) =
 pub text_most : (s : Settings) → IsSettings s → length (text_of s) ≤ 31
 text_most s i =
     let p = settings_parts s i in
-    omega (arith, text_length s, rates-length s.first s.second s.third, rates_most (rates_cases s.first s.second s.third p.0), tcmax_long s.tcmax (tcmax_range s.tcmax p.1).1)
+    omega (arith, text_length s, rates-length s.first s.second s.third, rates_most (rates_cases s.first s.second s.third p.0), length-decimal-le 3 s.tcmax (omega arith) (omega (arith, (tcmax_range s.tcmax p.1).1)) (omega (arith, (tcmax_range s.tcmax p.1).1)))

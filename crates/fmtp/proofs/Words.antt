@@ -1,156 +1,85 @@
--- Fixed words at a text's start, letter case folded: what `starts_with` tells of the text, and the loop that compares.
-use mathlib.Core.Path.{◌≡◌, refl, sym, ap, ◌∙◌}
-use mathlib.Core.Bool.{Bool, true, false, false≢true}
-use mathlib.Core.List.{List, [], ◌∷◌, ◌++◌, map}
-use Prim.Native.Nat.{ℕ, ◌+◌, ◌-◌, ◌≤◌, ◌<◌}
-use native.Mathlib.Omega.{arith}
-use native.Mathlib.Decide.{ℕ_discrete}
-use lib.Dec.{eqb, ltb}
-use lib.ListN.{length, take, drop, length-map, length-drop, length-append}
-use mathlib.Core.Logic.{◌⊎◌, inl, inr}
-use borrow.Author.Tests.{lt-ltb, le-ltb, eq-eqb, ne_eqb, eqb-true, ltb-true}
-use Rattle.fmtp.specs.Text.{lower}
-use Rattle.fmtp.specs.Steps.{starts_with}
-use Rattle.fmtp.proofs.Flags.{below_or, both_true, every}
+-- Words that a text starts with, in any letter case: the test of an octet, and what the test of each octet tells.
+use Rattle.std.proofs.Common.{◌≡◌, ◌==◌, ◌&&◌, ◌||◌, ◌<◌, Bool, true, false, ℕ, List, [], ◌∷◌, ◌++◌, map, length, take, drop, refl, sym, ap, ◌∙◌, arith, rules, zip, bytes_eq, length-take, Option, Some, None, ◌⊎◌, inl, ltb, ltb-true, take-append-drop, take_at, drop_at, ne_eqb}
+use Rattle.std.proofs.lemmas.List.{length-map}
+use Rattle.std.proofs.lemmas.Bool.{and_parts}
+use Rattle.std.proofs.lemmas.Option.{cond_some}
+use Rattle.std.proofs.lemmas.Slice.Eq.{bytes_eq-Decides}
+use Rattle.std.proofs.lemmas.Bool.Decides.{nat_tests}
+use Rattle.std.specs.Char.{to_ascii_lowercase, to_ascii_uppercase}
+use Rattle.std.specs.List.{list_all}
+use Rattle.fmtp.specs.Steps.{behind_word}
 
--- ---- folding
+-- an octet is a word's, or its capital
+abbrev pub is_octet : ℕ × ℕ → Bool
+is_octet p = p.0 == p.1 || p.0 == to_ascii_uppercase p.1
 
--- an octet is folded from itself, or from its capital if it is a small letter
-data Folded (x y : ℕ) : Type 0 where
-  kept : x ≡ y → Folded x y
-  lowered : 65 ≤ x → x ≤ 90 → x + 32 ≡ y → Folded x y
+octet_folds : (x w : ℕ) → to_ascii_lowercase w ≡ w → is_octet (x, w) ≡ (to_ascii_lowercase x == w)
+octet_folds x w e = grind (arith, nat_tests)
 
-folded : (x y : ℕ) → lower x ≡ y → Folded x y
-unfolding lower
-folded x y e = go (below_or x 65) (below_or 90 x)
-  where
-    go : (x < 65) ⊎ (65 ≤ x) → (90 < x) ⊎ (x ≤ 90) → Folded x y
-    go (inl a) b = kept (simp (lt-ltb x 65 a) at e)
-    go (inr a) (inl b) = kept (simp (le-ltb x 65 a, lt-ltb 90 x b) at e)
-    go (inr a) (inr b) = lowered a b (simp (le-ltb x 65 a, le-ltb 90 x b) at e)
+pub octets_fold : (xs ws : List ℕ) → length xs ≡ length ws → map to_ascii_lowercase ws ≡ ws → list_all is_octet (zip xs ws) ≡ bytes_eq (map to_ascii_lowercase xs) ws
+octets_fold [] [] l e = refl
+octets_fold [] (w ∷ ws) l e = absurd (cc)
+octets_fold (x ∷ xs) [] l e = absurd (cc)
+octets_fold (x ∷ xs) (w ∷ ws) l e =
+    let h : to_ascii_lowercase w ≡ w = cc in
+    let r : list_all is_octet (zip xs ws) ≡ bytes_eq (map to_ascii_lowercase xs) ws = octets_fold xs ws (cc) (cc) in
+    rw (octet_folds x w h, r) refl
+
+-- a text that is shorter than the word
+short : (xs ws : List ℕ) → length xs < length ws → bytes_eq (map to_ascii_lowercase xs) ws ≡ false
+short xs [] l = absurd (omega arith)
+short [] (w ∷ ws) l = refl
+short (x ∷ xs) (w ∷ ws) l = rw (short xs ws (omega arith)) (search rules)
+
+pub behind_short : (w t : List ℕ) → length t < length w → behind_word w t ≡ None
+unfolding behind_word
+behind_short w t l =
+    let k : length (take (length w) t) < length w = omega (arith, length-take (length w) t) in
+    simp (short (take (length w) t) w k)
+
+-- ---- what a word at the start tells of a text, and what a text tells of a word
+
+-- a text that starts with a spelling of the word
+pub record Begun (w t u : List ℕ) : Type 0 where
+  pub spelling : List ℕ
+  pub folds : map to_ascii_lowercase spelling ≡ w
+  pub text : t ≡ spelling ++ u
+
+pub behind_found : (w t u : List ℕ) → behind_word w t ≡ Some u → Begun w t u
+unfolding behind_word
+behind_found w t u e =
+    let p = cond_some (bytes_eq (map to_ascii_lowercase (take (length w) t)) w) (drop (length w) t) u e in
+    record {
+      spelling = take (length w) t;
+      folds = (bytes_eq-Decides (map to_ascii_lowercase (take (length w) t)) w).0 p.0;
+      text = sym (take-append-drop (length w) t) ∙ ap (λ (l : List ℕ). take (length w) t ++ l) p.1;
+    }
+
+pub spelled-length : (s w : List ℕ) → map to_ascii_lowercase s ≡ w → length s ≡ length w
+spelled-length s w e = sym (length-map s to_ascii_lowercase) ∙ ap length e
+
+pub behind_read : (w s u : List ℕ) → map to_ascii_lowercase s ≡ w → behind_word w (s ++ u) ≡ Some u
+unfolding behind_word
+behind_read w s u e =
+    let n : length s ≡ length w = spelled-length s w e in
+    let b : bytes_eq (map to_ascii_lowercase s) w ≡ true = (bytes_eq-Decides (map to_ascii_lowercase s) w).1 e in
+    rw (take_at s u (length w) n, drop_at s u (length w) n, b)
+
+-- a text that starts with another octet
+pub behind_other : (w x : ℕ) (ws t : List ℕ) → (to_ascii_lowercase x ≡ w → ⊥) → behind_word (w ∷ ws) (x ∷ t) ≡ None
+unfolding behind_word
+behind_other w x ws t n = simp (ne_eqb (to_ascii_lowercase x) w n)
 
 -- an octet that is no small letter is folded from itself alone
-pub fold_only : (x y : ℕ) → lower x ≡ y → (y < 97) ⊎ (122 < y) → x ≡ y
-fold_only x y e l = go (folded x y e) l
-  where
-    go : Folded x y → (y < 97) ⊎ (122 < y) → x ≡ y
-    go (kept f) l = f
-    go (lowered a b f) (inl l) = absurd (omega arith)
-    go (lowered a b f) (inr l) = absurd (omega arith)
+pub folds_alone : (x w : ℕ) → (w < 97) ⊎ (122 < w) → to_ascii_lowercase x ≡ w → x ≡ w
+folds_alone x w l e = grind (arith, nat_tests)
 
-fold_capital : (x y : ℕ) → lower x ≡ y → (x ≡ y → ⊥) → x + 32 ≡ y
-fold_capital x y e n = go (folded x y e)
-  where
-    go : Folded x y → x + 32 ≡ y
-    go (kept f) = absurd (n f)
-    go (lowered a b f) = f
-
-capital_folds : (x : ℕ) → 65 ≤ x → x ≤ 90 → lower x ≡ x + 32
-unfolding lower
-capital_folds x l h = simp (le-ltb x 65 l, le-ltb 90 x h)
-
-module _ (x w : ℕ) where
-  pub same_octet : lower w ≡ w → x ≡ w → true ≡ eqb (lower x) w
-  same_octet l e = sym (eq-eqb (lower x) w (ap lower e ∙ l))
-
-  pub other_octet : (x ≡ w → ⊥) → (w < 97) ⊎ (122 < w) → false ≡ eqb (lower x) w
-  other_octet n l = sym (ne_eqb (lower x) w (λ e. n (fold_only x w e l)))
-
-  pub capital_octet : (x ≡ w → ⊥) → 97 ≤ w → w ≤ 122 → eqb x (w - 32) ≡ eqb (lower x) w
-  capital_octet n l h = go (ℕ_discrete x (w - 32))
-    where
-      go : Dec (x ≡ w - 32) → eqb x (w - 32) ≡ eqb (lower x) w
-      go (yes e) = eq-eqb x (w - 32) e ∙ sym (eq-eqb (lower x) w (capital_folds x (omega arith) (omega arith) ∙ omega arith))
-      go (no e) = ne_eqb x (w - 32) e ∙ sym (ne_eqb (lower x) w (λ f. e (omega (arith, fold_capital x w f n))))
-
--- ---- lengths
-
-pub empty_list : (t : List ℕ) → length t ≡ 0 → t ≡ []
-empty_list [] e = refl
-empty_list (x ∷ t) e = absurd (omega arith)
-
-starts_long : (w t : List ℕ) → starts_with w t ≡ true → length w ≤ length t
-starts_long [] t h = omega arith
-starts_long (x ∷ w) [] h = absurd (false≢true h)
-starts_long (x ∷ w) (y ∷ t) h =
-    let r : length w ≤ length t = starts_long w t (both_true (eqb (lower y) x) (starts_with w t) h).1 in omega arith
-
-starts_short : (w t : List ℕ) → length t < length w → false ≡ starts_with w t
-starts_short w t l = go (starts_with w t) refl
-  where
-    go : (b : Bool) → starts_with w t ≡ b → false ≡ b
-    go true e = absurd (omega (arith, starts_long w t e))
-    go false e = refl
-
-pub starts_fit : (w t : List ℕ) (at : ℕ) → at ≤ length t → starts_with w (drop at t) ≡ true → at + length w ≤ length t
-starts_fit w t at l e = omega (arith, starts_long w (drop at t) e, length-drop at t)
-
--- ---- the loop that compares
-
-pub record Compared (w t : List ℕ) (at i : ℕ) : Type 0 where
-  pub upto : i ≤ length w
-  pub room : at + length w ≤ length t
-  pub rest : starts_with (drop i w) (drop (at + i) t) ≡ starts_with w (drop at t)
-
-pub compared_short : (w t : List ℕ) (at : ℕ) → at ≤ length t → length t - at < length w → false ≡ starts_with w (drop at t)
-compared_short w t at h l = starts_short w (drop at t) (omega (arith, length-drop at t))
-
--- ---- what a word at the start tells of the text, and what a text tells of a word
-
--- no small letter
-abbrev pub is_sign : ℕ → Bool
-is_sign x = ltb x 97
-
--- a word without small letters stands in the text as it is
-pub starts_exact : (w t : List ℕ) → every is_sign w ≡ true → starts_with w t ≡ true → t ≡ w ++ drop (length w) t
-starts_exact [] t p h = refl
-starts_exact (x ∷ w) [] p h = absurd (false≢true h)
-starts_exact (x ∷ w) (y ∷ t) p h =
-    let q = both_true (ltb x 97) (every is_sign w) p in
-    let r = both_true (eqb (lower y) x) (starts_with w t) h in
-    let e : y ≡ x = fold_only y x (eqb-true (lower y) x r.0) (inl (ltb-true x 97 q.0)) in
-    let f : t ≡ w ++ drop (length w) t = starts_exact w t q.1 r.1 in
+-- so is a word of such octets
+pub spelled_alone : (s w : List ℕ) → list_all (λ x. ltb x 97) w ≡ true → map to_ascii_lowercase s ≡ w → s ≡ w
+spelled_alone [] w a e = e
+spelled_alone (x ∷ s) [] a e = absurd (cc)
+spelled_alone (x ∷ s) (y ∷ w) a e =
+    let p = and_parts (ltb y 97) (list_all (λ x. ltb x 97) w) a in
+    let h : x ≡ y = folds_alone x y (inl (ltb-true y 97 p.0)) (cc) in
+    let t : s ≡ w = spelled_alone s w p.1 (cc) in
     cc
-
-pub starts_spelled : (w t : List ℕ) → starts_with w t ≡ true → map lower (take (length w) t) ≡ w
-starts_spelled [] t h = refl
-starts_spelled (x ∷ w) [] h = absurd (false≢true h)
-starts_spelled (x ∷ w) (y ∷ t) h =
-    let r = both_true (eqb (lower y) x) (starts_with w t) h in
-    let e : lower y ≡ x = eqb-true (lower y) x r.0 in
-    let f : map lower (take (length w) t) ≡ w = starts_spelled w t r.1 in
-    cc
-
--- a spelling of the word at the text's start
-pub starts_folded : (w s rest : List ℕ) → map lower s ≡ w → starts_with w (s ++ rest) ≡ true
-starts_folded w s rest e = rw e at (self s)
-  where
-    self : (s : List ℕ) → starts_with (map lower s) (s ++ rest) ≡ true
-    self [] = refl
-    self (x ∷ s) = simp (eq-eqb (lower x) (lower x) refl) (self s)
-
-pub starts_other : (x : ℕ) (w s rest : List ℕ) (y : ℕ) (v : List ℕ) → map lower s ≡ y ∷ v → (y ≡ x → ⊥) → starts_with (x ∷ w) (s ++ rest) ≡ false
-starts_other x w [] rest y v e n = let z : ◌≡◌ {A = ℕ} 0 1 = cc in absurd (omega arith)
-starts_other x w (z ∷ s) rest y v e n =
-    let f : lower z ≡ y = cc in
-    simp (ne_eqb (lower z) x (λ g. n (sym f ∙ g)))
-
-pub spelled-length : (w s : List ℕ) → map lower s ≡ w → length s ≡ length w
-spelled-length w s e = sym (length-map s lower) ∙ ap length e
-
--- a word behind another
-pub starts_both : (v w t : List ℕ) → starts_with (v ++ w) t ≡ true → (starts_with v t ≡ true) × (starts_with w (drop (length v) t) ≡ true)
-starts_both [] w t h = (refl, h)
-starts_both (x ∷ v) w [] h = absurd (false≢true h)
-starts_both (x ∷ v) w (y ∷ t) h =
-    let p = both_true (eqb (lower y) x) (starts_with (v ++ w) t) h in
-    let q = starts_both v w t p.1 in
-    (simp p.0 q.0, q.1)
-
-pub map-append : (v w : List ℕ) → map lower (v ++ w) ≡ map lower v ++ map lower w
-map-append [] w = refl
-map-append (x ∷ v) w = ap (λ (l : List ℕ). lower x ∷ l) (map-append v w)
-
--- a list that the text starts with lies in it
-pub split_fits : (a t : List ℕ) (at : ℕ) → at ≤ length t → drop at t ≡ a ++ drop (length a) (drop at t) → at + length a ≤ length t
-split_fits a t at l e = omega (arith, ap length e ∙ length-append a (drop (length a) (drop at t)), length-drop at t)

@@ -1,14 +1,15 @@
 -- The language of setting texts said forwards, from settings to texts: docs/FORMAT.md, "Setting text".
 -- No promise cites it; proofs/Theorems.antt shows that a text means settings by it exactly if `meaning` gives them.
-use Rattle.std.specs.Prelude.{◌≡◌, true, List, [], ◌∷◌, ◌++◌, map, ℕ}
+use Rattle.std.specs.Prelude.{◌≡◌, true, List, [], ◌∷◌, ◌++◌, map, ℕ, decimal}
+use Rattle.std.specs.Char.{to_ascii_lowercase}
 use Rattle.fmtp.specs.declared.Settings.{Settings}
 use Rattle.fmtp.specs.Settings.{are_rates, is_tcmax, settings_of}
-use Rattle.fmtp.specs.Text.{lower, bitrate_name, tcmax_name, equals, semicolon, rates_text, decimal, missing_rate, missing_tcmax}
+use Rattle.fmtp.specs.Text.{bitrate_name, tcmax_name, equals, semicolon, rates_text, missing_rate, missing_tcmax}
 
 -- an item's text: its name, spelled in any letter case, then `=` and its value
 pub record Spelled (name value t : List ℕ) : Type 0 where
   pub spelling : List ℕ
-  pub folds : map lower spelling ≡ name
+  pub folds : map to_ascii_lowercase spelling ≡ name
   pub text : t ≡ spelling ++ (equals ∷ value)
 
 -- "`bitrate=` takes one to three different rates"

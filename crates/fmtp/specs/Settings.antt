@@ -1,11 +1,11 @@
 -- Settings: docs/FORMAT.md, "Setting text".
-use Rattle.std.specs.Prelude.{◌≡◌, Bool, true, false, not, ◌&&◌, ◌||◌, List, [], ◌∷◌, ℕ, eqb, leb}
+use Rattle.std.specs.Prelude.{◌≡◌, Bool, true, not, ◌&&◌, ◌||◌, List, [], ◌∷◌, ℕ, eqb, leb}
+use Rattle.std.specs.List.{list_any}
 use Rattle.fmtp.specs.declared.Settings.{Settings}
 
 -- a number stands in a list
 abbrev pub is_in : ℕ → List ℕ → Bool
-is_in x [] = false
-is_in x (y ∷ ys) = eqb x y || is_in x ys
+is_in x ys = list_any (eqb x) ys
 
 -- "rates out of 2400, 1200, 600"
 abbrev pub rates : List ℕ

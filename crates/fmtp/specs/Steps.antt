@@ -1,105 +1,117 @@
 -- Steps of the reader and the writer. Only private functions' contracts cite them; no public promise reaches them.
-use Rattle.std.specs.Prelude.{◌≡◌, Bool, true, false, cond, not, ◌&&◌, List, [], ◌∷◌, ◌++◌, ℕ, ◌+◌, ◌-◌, ◌*◌, ltb, eqb, length, drop}
-use Rattle.std.proofs.lemmas.List.Edits.{sets}
-use Rattle.refusal.specs.Numbers.{wrong_settings}
-use Rattle.refusal.specs.Report.{refusal}
-use Rattle.fmtp.specs.declared.Parsed.{Parsed}
-use Rattle.fmtp.specs.declared.Parsed.TheVariants.{Accepted, Refused}
-use Rattle.fmtp.specs.Settings.{rates, are_rates, settings_of}
-use Rattle.fmtp.specs.Text.{lower, bitrate_name, tcmax_name, equals, semicolon, comma, decimal, further_text, missing_tcmax}
+use Rattle.std.specs.Prelude.{◌≡◌, ◌==◌, Bool, true, false, if◌then◌else◌, ◌&&◌, List, [], ◌∷◌, ◌++◌, ℕ, ◌+◌, ◌-◌, ◌*◌, nat_le, length, take, drop, map, bytes_eq, codes, Option, Some, None, option_map, option_and_then}
+use Rattle.std.specs.Borrow.{Bor}
+use Rattle.std.specs.Char.{to_ascii_lowercase}
+use Rattle.fmtp.specs.declared.Settings.{Settings}
+use Rattle.fmtp.specs.declared.read_text.Item.{Item as Said}
+use Rattle.fmtp.specs.declared.read_text.Item.TheVariants.{Bitrate, Tcmax}
+use Rattle.fmtp.specs.declared.write_text.Cursor.{Cursor}
+use Rattle.fmtp.specs.Text.{bitrate_name, tcmax_name, equals, semicolon, comma}
+use Rattle.fmtp.specs.Meaning.{Item, bitrate, tcmax, bitrate_item, combined}
 
--- ---- the reader: each step reads what a text starts with. 0 stands for no rate and no tcmax
+-- ---- the reader: each step takes what a text starts with
 
--- the text, its letter case folded, starts with the word
-abbrev pub starts_with : List ℕ → List ℕ → Bool
-starts_with [] t = true
-starts_with (w ∷ ws) [] = false
-starts_with (w ∷ ws) (x ∷ xs) = eqb (lower x) w && starts_with ws xs
+-- what a step takes, and the text behind it
+abbrev pub Taken : Type 0 → Type 0
+Taken A = Option (A × List ℕ)
 
--- the first of the numbers whose decimal the text starts with
-abbrev pub one_at : List ℕ → List ℕ → ℕ
-one_at [] t = 0
-one_at (n ∷ ns) t = cond (starts_with (decimal n) t) n (one_at ns t)
+-- the same of what a function answers
+abbrev pub taken : {A : Type 0} → Option (A × Bor (List ℕ)) → Taken A
+taken None = None
+taken (Some p) = Some (p.0, p.1.now)
 
--- the rate that the text starts with
-unfoldable pub rate_at : List ℕ → ℕ
-rate_at t = one_at rates t
+-- what an item says
+abbrev pub item_of : Said → Item
+item_of (Bitrate a b c) = bitrate a b c
+item_of (Tcmax n) = tcmax n
 
--- the rate behind the comma that the text starts with
-unfoldable pub further_at : List ℕ → ℕ
-further_at t = cond (starts_with (comma ∷ []) t) (rate_at (drop 1 t)) 0
+-- an item that a function answers, and the text behind it
+abbrev pub taken_item : Option (Said × Bor (List ℕ)) → Taken Item
+taken_item None = None
+taken_item (Some p) = Some (item_of p.0, p.1.now)
 
--- the number whose digits are those of v and then those that the text starts with; 0 if the first of them is 0 or the number is over 255
-abbrev pub count_on : ℕ → List ℕ → ℕ
-count_on v [] = v
-count_on v (x ∷ xs) =
-    cond (ltb x 48) v
-    (cond (ltb 57 x) v
-    (cond (eqb (v * 10 + (x - 48)) 0) 0
-    (cond (ltb 255 (v * 10 + (x - 48))) 0 (count_on (v * 10 + (x - 48)) xs))))
+-- the next step, if there is a value
+infixl 10 ◌>>=◌
+abbrev pub ◌>>=◌ : {A B : Type 0} → Option A → (A → Option B) → Option B
+o >>= f = option_and_then f o
 
--- the number 1 to 255 that the text starts with
-unfoldable pub number_at : List ℕ → ℕ
-number_at t = count_on 0 t
+-- the text behind a word that it starts with, in any letter case
+unfoldable pub behind_word : List ℕ → List ℕ → Option (List ℕ)
+behind_word w t = if bytes_eq (map to_ascii_lowercase (take (length w) t)) w then Some (drop (length w) t) else None
 
--- the number 1 to 255 that the whole text is
-unfoldable pub last_number : List ℕ → ℕ
-last_number t = cond (eqb (length t) (length (decimal (number_at t)))) (number_at t) 0
+-- the number, if there is a text behind its own, or else another
+abbrev pub or_else : ℕ → Option (List ℕ) → Taken ℕ → Taken ℕ
+or_else n (Some t) other = Some (n, t)
+or_else n None other = other
 
--- the number of a tcmax item that the text starts with
-unfoldable pub tcmax_at : List ℕ → ℕ
-tcmax_at t = cond (starts_with (tcmax_name ++ (equals ∷ [])) t) (number_at (drop 6 t)) 0
+unfoldable pub take_rate : List ℕ → Taken ℕ
+take_rate t = or_else 2400 (behind_word (codes "2400") t) (or_else 1200 (behind_word (codes "1200") t) (or_else 600 (behind_word (codes "600") t) None))
 
--- the octets of a tcmax item of the number n
-unfoldable pub tcmax_length : ℕ → ℕ
-tcmax_length n = cond (eqb n 0) 0 (6 + length (decimal n))
+-- a rate behind a comma; where none stands, an unused place, of which there is no text
+abbrev pub take_further : List ℕ → Taken ℕ
+take_further [] = Some (0, [])
+take_further (x ∷ t) = if x == comma then take_rate t else Some (0, x ∷ t)
 
--- what stands behind the `;` that the text starts with; nothing where it does not
-abbrev pub after_semicolon : List ℕ → List ℕ
-after_semicolon [] = []
-after_semicolon (x ∷ t) = cond (eqb x semicolon) t []
+-- one to three different rates, and the text behind them
+unfoldable pub take_rates : List ℕ → Taken Item
+take_rates t = do
+  a ← take_rate t
+  b ← take_further a.1
+  c ← take_further b.1
+  option_map (λ i. (i, c.1)) (bitrate_item a.0 b.0 c.0)
 
--- the text from the next item on, behind so many octets
-unfoldable pub next_text : ℕ → List ℕ → List ℕ
-next_text end t = cond (eqb end 0) t (after_semicolon (drop end t))
+-- the number n where its digits end, with the text behind them: none if there are no digits
+abbrev pub ended : ℕ → List ℕ → Taken ℕ
+ended n t = if n == 0 then None else Some (n, t)
 
--- the tcmax of a text that goes on so behind its rates. An item before them gave n
-unfoldable pub tcmax_behind : ℕ → List ℕ → ℕ
-tcmax_behind n t =
-    cond (eqb (length t) 0) (cond (eqb n 0) missing_tcmax n)
-    (cond (eqb n 0) (cond (starts_with (semicolon ∷ (tcmax_name ++ (equals ∷ []))) t) (last_number (drop 7 t)) 0) 0)
+-- the number whose digits are those of n and then those that the text starts with: 1 to 255 with each digit that there is
+abbrev pub digits_on : ℕ → List ℕ → Taken ℕ
+digits_on n [] = ended n []
+digits_on n (x ∷ t) =
+    if nat_le 48 x && nat_le x 57
+    then (if nat_le 1 (n * 10 + (x - 48)) && nat_le (n * 10 + (x - 48)) 255 then digits_on (n * 10 + (x - 48)) t else None)
+    else ended n (x ∷ t)
 
--- the refusal of a text
-abbrev pub wrong_text : Parsed
-wrong_text = Refused (refusal wrong_settings 0)
+-- a number of 1 to 255 without leading zeros
+unfoldable pub take_number : List ℕ → Taken ℕ
+take_number t = digits_on 0 t
 
--- the answer for three places and a tcmax
-unfoldable pub settle : ℕ → ℕ → ℕ → ℕ → Parsed
-settle a b c n = cond (are_rates a b c && not (eqb n 0)) (Accepted (settings_of a b c n)) wrong_text
+-- the number of a tcmax item, and the text behind it
+unfoldable pub take_tcmax : List ℕ → Taken Item
+take_tcmax t = do
+  value ← behind_word (tcmax_name ++ (equals ∷ [])) t
+  n ← take_number value
+  Some (tcmax n.0, n.1)
 
--- the answer from the third place c on
-abbrev pub from_third : ℕ → ℕ → ℕ → ℕ → List ℕ → Parsed
-from_third n a b c t = settle a b c (tcmax_behind n (drop (length (further_text c)) t))
+-- an item: of a text that starts with the name of one alone that one
+abbrev pub item_behind : Option (List ℕ) → List ℕ → Taken Item
+item_behind (Some value) t = take_rates value
+item_behind None t = take_tcmax t
 
--- the answer from the second place b on
-abbrev pub from_second : ℕ → ℕ → ℕ → List ℕ → Parsed
-from_second n a b t = from_third n a b (further_at (drop (length (further_text b)) t)) (drop (length (further_text b)) t)
+unfoldable pub take_item : List ℕ → Taken Item
+take_item t = item_behind (behind_word (bitrate_name ++ (equals ∷ [])) t) t
 
--- the answer from the first rate a on
-abbrev pub from_first : ℕ → ℕ → List ℕ → Parsed
-from_first n a t = from_second n a (further_at (drop (length (decimal a)) t)) (drop (length (decimal a)) t)
+-- the settings of a text that goes on so behind two items
+abbrev pub settings_behind_two : Item → Item → List ℕ → Option Settings
+settings_behind_two i j [] = combined (i ∷ j ∷ [])
+settings_behind_two i j (x ∷ t) = None
 
--- the answer from the rates on. An item before them gave n
-unfoldable pub from_rates : ℕ → List ℕ → Parsed
-from_rates n t = cond (eqb (rate_at t) 0) wrong_text (from_first n (rate_at t) t)
+-- the settings of a text that goes on so behind an item
+abbrev pub settings_behind : Item → List ℕ → Option Settings
+settings_behind i [] = combined (i ∷ [])
+settings_behind i (x ∷ t) = if x == semicolon then (take_item t >>= λ j. settings_behind_two i j.0 j.1) else None
 
--- the answer from a bitrate item on. An item before it gave n
-unfoldable pub from_bitrate : ℕ → List ℕ → Parsed
-from_bitrate n t = cond (starts_with (bitrate_name ++ (equals ∷ [])) t) (from_rates n (drop 8 t)) wrong_text
+-- the settings that a whole text gives
+unfoldable pub settings_in : List ℕ → Option Settings
+settings_in [] = combined []
+settings_in (x ∷ t) = take_item (x ∷ t) >>= λ i. settings_behind i.0 i.1
 
 -- ---- the writer
 
--- the word is stored in the buffer from an index on, and the answer is the index behind it
-pub record Stored (before : List ℕ) (at : ℕ) (word : List ℕ) (r : ℕ) (after : List ℕ) : Type 0 where
-  pub end : r ≡ at + length word
-  pub octets : after ≡ sets before at word
+-- a cursor puts the word behind what it has put; its buffer stays the same one, and what stands behind the word is as it was
+pub record Puts (before : Cursor) (word : List ℕ) (after : Cursor) : Type 0 where
+  pub buffer : after.out.ghost_name ≡ before.out.ghost_name
+  pub room : length after.out.now ≡ length before.out.now
+  pub end : after.end ≡ before.end + length word
+  pub text : take after.end after.out.now ≡ take before.end before.out.now ++ word
+  pub rest : drop after.end after.out.now ≡ drop after.end before.out.now

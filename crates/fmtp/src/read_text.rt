@@ -1,221 +1,146 @@
-// The steps of the reader. Each reads what stands from an index on; 0 stands for no rate and no tcmax.
-ghost use Rattle.std.specs.Prelude.{◌≡◌, map, ◌≤◌, ◌<◌, eqb, length, drop};
-ghost use Rattle.fmtp.specs.Settings.{settings_of};
-ghost use Rattle.fmtp.specs.Text.{lower};
-ghost use Rattle.fmtp.specs.Steps.{starts_with, rate_at, further_at, number_at, last_number, tcmax_at, next_text, tcmax_behind};
-ghost use Rattle.fmtp.specs.Steps.{wrong_text, from_rates, from_bitrate};
+// The steps of the reader. Each takes what a text starts with, and answers it with the text behind it.
+ghost use Rattle.std.specs.Prelude.{◌≡◌, map, option_copied};
+ghost use Rattle.std.specs.Char.{to_ascii_lowercase};
+ghost use Rattle.fmtp.specs.Meaning.{one_item, two_items};
+ghost use Rattle.fmtp.specs.Steps.{item_of, taken, taken_item, behind_word, take_rate, take_further, take_rates, take_number, take_item, settings_in};
 
-use super::lengths::{further_len, number_len};
 use super::validity::are_rates;
-use super::{MISSING_TCMAX, Parsed, Settings};
-use refusal::Refusal;
+use super::{MISSING, Settings};
 
-// ---- words
-
-// Whether the octet is the word's, its letter case folded.
-fn is_octet(x: u8, w: u8) -> bool
-    requires { lower w ≡ w }
-    ensures { result ≡ eqb (lower x) w }
-{
-    if x == w {
-        return true;
-    }
-    if w < b'a' {
-        return false;
-    }
-    if b'z' < w {
-        return false;
-    }
-    x == w - 32
+// What an item says: one to three rates, unused places 0 as in `Settings`, or a tcmax.
+#[derive(Clone, Copy, Debug, PartialEq, Eq)]
+enum Item {
+    Bitrate(u16, u16, u16),
+    Tcmax(u16),
 }
 
-// Whether the word stands in the text from the index on, the text's letter case folded.
-fn starts(text: &[u8], at: usize, word: &[u8]) -> bool
-    requires { (at ≤ length text.now) × (map lower word.now ≡ word.now) }
-    ensures { result ≡ starts_with word.now (drop at text.now) }
+// The text behind the word that it starts with, in any letter case. std's `eq_ignore_ascii_case` folds both sides, which
+// makes reading a third slower.
+fn strip_word<'a>(text: &'a [u8], word: &[u8]) -> Option<&'a [u8]>
+    requires { map to_ascii_lowercase word.now ≡ word.now }
+    ensures { option_copied result ≡ behind_word word.now text.now }
 {
-    if text.len() - at < word.len() {
-        return false;
+    let (start, rest) = text.split_at_checked(word.len())?;
+    start
+        .iter()
+        .zip(word)
+        .all(|(x, w)| x == w || *x == w.to_ascii_uppercase())
+        .then_some(rest)
+}
+
+#[tactic(auto, unfolding(crate::specs::Steps::take_rate))]
+fn take_rate(text: &[u8]) -> Option<(u16, &[u8])>
+    ensures { taken result ≡ take_rate text.now }
+{
+    if let Some(rest) = strip_word(text, b"2400") {
+        return Some((2400, rest));
     }
-    let mut i = 0;
-    while i < word.len() {
-        if !is_octet(text[at + i], word[i]) {
-            return false;
+    if let Some(rest) = strip_word(text, b"1200") {
+        return Some((1200, rest));
+    }
+    Some((600, strip_word(text, b"600")?))
+}
+
+// A rate behind a comma. Where no comma stands, the place is unused, and nothing is taken.
+fn take_further(text: &[u8]) -> Option<(u16, &[u8])>
+    ensures { taken result ≡ take_further text.now }
+{
+    match text {
+        [b',', rest @ ..] => take_rate(rest),
+        _ => Some((0, text)),
+    }
+}
+
+#[tactic(auto, unfolding(crate::specs::Steps::take_rates, crate::specs::Meaning::bitrate_item))]
+fn take_rates(text: &[u8]) -> Option<(Item, &[u8])>
+    ensures { taken_item result ≡ take_rates text.now }
+{
+    let (first, rest) = take_rate(text)?;
+    let (second, rest) = take_further(rest)?;
+    let (third, rest) = take_further(rest)?;
+    are_rates(first, second, third).then_some((Item::Bitrate(first, second, third), rest))
+}
+
+// A number of 1 to 255 without leading zeros.
+#[tactic(auto, unfolding(crate::specs::Steps::take_number))]
+fn take_number(text: &[u8]) -> Option<(u16, &[u8])>
+    ensures { taken result ≡ take_number text.now }
+{
+    let mut number: u16 = 0;
+    let mut rest = text;
+    while let [digit @ b'0'..=b'9', behind @ ..] = rest {
+        number = number * 10 + u16::from(digit - b'0');
+        if !(1..=255).contains(&number) {
+            return None;
         }
-        i += 1;
+        rest = behind;
     }
-    true
+    (number != 0).then_some((number, rest))
 }
 
-// ---- rates
-
-// The rate from the index on.
-fn rate_at(text: &[u8], at: usize) -> u16
-    requires { at ≤ length text.now }
-    ensures { result ≡ rate_at (drop at text.now) }
+#[tactic(auto, unfolding(crate::specs::Steps::take_item, crate::specs::Steps::take_tcmax))]
+fn take_item(text: &[u8]) -> Option<(Item, &[u8])>
+    ensures { taken_item result ≡ take_item text.now }
 {
-    if starts(text, at, b"2400") {
-        return 2400;
+    if let Some(value) = strip_word(text, b"bitrate=") {
+        return take_rates(value);
     }
-    if starts(text, at, b"1200") {
-        return 1200;
-    }
-    if starts(text, at, b"600") {
-        return 600;
-    }
-    0
+    let (number, rest) = take_number(strip_word(text, b"tcmax=")?)?;
+    Some((Item::Tcmax(number), rest))
 }
 
-// The rate behind a comma from the index on.
-fn further_at(text: &[u8], at: usize) -> u16
-    requires { at ≤ length text.now }
-    ensures { result ≡ further_at (drop at text.now) }
-{
-    if starts(text, at, b",") {
-        return rate_at(text, at + 1);
-    }
-    0
-}
+impl Item {
+    ghost use Rattle.fmtp.specs.Steps.{item_of};
 
-// ---- numbers
-
-// The number 1 to 255 from the index on.
-fn number_at(text: &[u8], at: usize) -> u16
-    requires { at ≤ length text.now }
-    ensures { result ≡ number_at (drop at text.now) }
-{
-    let mut value: u16 = 0;
-    let mut i = at;
-    while i < text.len() {
-        let x = text[i];
-        if x < b'0' {
-            return value;
+    // What a text of this item alone means.
+    fn alone(self) -> Settings
+        ensures { result ≡ one_item (item_of self) }
+    {
+        match self {
+            Item::Bitrate(first, second, third) => Settings {
+                first,
+                second,
+                third,
+                ..MISSING
+            },
+            Item::Tcmax(tcmax) => Settings { tcmax, ..MISSING },
         }
-        if b'9' < x {
-            return value;
+    }
+
+    // What a text of both items means.
+    fn with(self, other: Item) -> Option<Settings>
+        ensures { result ≡ two_items (item_of self) (item_of other) }
+    {
+        match (self, other) {
+            (Item::Bitrate(first, second, third), Item::Tcmax(tcmax))
+            | (Item::Tcmax(tcmax), Item::Bitrate(first, second, third)) => Some(Settings {
+                first,
+                second,
+                third,
+                tcmax,
+            }),
+            _ => None,
         }
-        value = value * 10 + (x - b'0') as u16;
-        if value == 0 {
-            return 0;
+    }
+}
+
+// What the whole text means.
+#[tactic(auto, unfolding(crate::specs::Steps::settings_in))]
+pub(crate) fn settings_in(text: &[u8]) -> Option<Settings>
+    ensures { result ≡ settings_in text.now }
+{
+    if text.is_empty() {
+        return Some(MISSING);
+    }
+    let (item, rest) = take_item(text)?;
+    match rest {
+        [] => Some(item.alone()),
+        [b';', rest @ ..] => {
+            let (other, []) = take_item(rest)? else {
+                return None;
+            };
+            item.with(other)
         }
-        if 255 < value {
-            return 0;
-        }
-        i += 1;
+        _ => None,
     }
-    value
-}
-
-// The number 1 to 255 from the index on, if the text ends behind it.
-fn last_number(text: &[u8], at: usize) -> u16
-    requires { at ≤ length text.now }
-    ensures { result ≡ last_number (drop at text.now) }
-{
-    let n = number_at(text, at);
-    if text.len() - at != number_len(n) {
-        return 0;
-    }
-    n
-}
-
-// ---- items
-
-// The number of a tcmax item at the text's start.
-pub(crate) fn tcmax_at(text: &[u8]) -> u16
-    ensures { result ≡ tcmax_at text.now }
-{
-    if starts(text, 0, b"tcmax=") {
-        return number_at(text, 6);
-    }
-    0
-}
-
-// Where the item behind `end` octets starts: behind a `;`, or at the text's end where none stands. Behind no octets it starts at once.
-pub(crate) fn next_item(text: &[u8], end: usize) -> usize
-    requires { end < length text.now }
-    ensures { (result ≤ length text.now) × (drop result text.now ≡ next_text end text.now) }
-{
-    if end == 0 {
-        return 0;
-    }
-    if text[end] != b';' {
-        return text.len();
-    }
-    end + 1
-}
-
-// The tcmax of a text whose rates end at the index; 0 if what stands there is wrong. An item before the rates gave `before`.
-fn tcmax_behind(text: &[u8], at: usize, before: u16) -> u16
-    requires { at ≤ length text.now }
-    ensures { result ≡ tcmax_behind before (drop at text.now) }
-{
-    if at == text.len() {
-        if before == 0 {
-            return MISSING_TCMAX;
-        }
-        return before;
-    }
-    if before != 0 {
-        return 0;
-    }
-    if !starts(text, at, b";tcmax=") {
-        return 0;
-    }
-    last_number(text, at + 7)
-}
-
-// ---- answers
-
-fn refuse() -> Parsed
-    ensures { result ≡ wrong_text }
-{
-    Parsed::Refused(Refusal {
-        number: refusal::WRONG_SETTINGS,
-        place: 0,
-    })
-}
-
-pub(crate) fn accept(first: u16, second: u16, third: u16, tcmax: u16) -> Parsed
-    ensures { result ≡ Parsed.Accepted (settings_of first second third tcmax) }
-{
-    Parsed::Accepted(Settings {
-        first,
-        second,
-        third,
-        tcmax,
-    })
-}
-
-// Reads from the rates on. An item before them gave the tcmax `before`.
-fn read_rates(text: &[u8], at: usize, before: u16) -> Parsed
-    requires { at ≤ length text.now }
-    ensures { result ≡ from_rates before (drop at text.now) }
-{
-    let first = rate_at(text, at);
-    if first == 0 {
-        return refuse();
-    }
-    let second_at = at + number_len(first);
-    let second = further_at(text, second_at);
-    let third_at = second_at + further_len(second);
-    let third = further_at(text, third_at);
-    if !are_rates(first, second, third) {
-        return refuse();
-    }
-    let tcmax = tcmax_behind(text, third_at + further_len(third), before);
-    if tcmax == 0 {
-        return refuse();
-    }
-    accept(first, second, third, tcmax)
-}
-
-// Reads from a bitrate item on. An item before it gave the tcmax `before`.
-pub(crate) fn read_bitrate(text: &[u8], at: usize, before: u16) -> Parsed
-    requires { at ≤ length text.now }
-    ensures { result ≡ from_bitrate before (drop at text.now) }
-{
-    if !starts(text, at, b"bitrate=") {
-        return refuse();
-    }
-    read_rates(text, at + 8, before)
 }

@@ -1,65 +1,48 @@
 // Which values are settings, and which of these may be written.
 ghost use Rattle.std.specs.Prelude.{◌≡◌};
-ghost use Rattle.fmtp.specs.Settings.{is_rate, are_rates, is_settings};
-ghost use Rattle.fmtp.specs.Answers.{may_be_written};
+ghost use Rattle.fmtp.specs.Settings.{is_rate, are_rates};
 
 use super::Settings;
 
-fn is_rate(r: u16) -> bool
-    ensures { result ≡ is_rate r }
+#[tactic(auto, unfolding(crate::specs::Settings::is_rate))]
+fn is_rate(rate: u16) -> bool
+    ensures { result ≡ is_rate rate }
 {
-    if r == 2400 {
-        return true;
-    }
-    if r == 1200 {
-        return true;
-    }
-    r == 600
+    matches!(rate, 2400 | 1200 | 600)
 }
 
 // Whether these are one to three different rates, unused places 0.
-pub(crate) fn are_rates(a: u16, b: u16, c: u16) -> bool
-    ensures { result ≡ are_rates a b c }
+#[tactic(auto, using(crate::proofs::SettingsLaws::unused), unfolding(crate::specs::Settings::are_rates))]
+pub(crate) fn are_rates(first: u16, second: u16, third: u16) -> bool
+    ensures { result ≡ are_rates first second third }
 {
-    if !is_rate(a) {
+    if !is_rate(first) {
         return false;
     }
-    if b == 0 {
-        return c == 0;
+    if second == 0 {
+        return third == 0;
     }
-    if !is_rate(b) {
-        return false;
-    }
-    if a == b {
-        return false;
-    }
-    if c == 0 {
-        return true;
-    }
-    if !is_rate(c) {
-        return false;
-    }
-    if a == c {
-        return false;
-    }
-    b != c
+    is_rate(second)
+        && second != first
+        && (third == 0 || is_rate(third) && third != first && third != second)
 }
 
-fn is_settings(s: Settings) -> bool
-    ensures { result ≡ is_settings s }
-{
-    if s.tcmax < 1 {
-        return false;
-    }
-    if 255 < s.tcmax {
-        return false;
-    }
-    are_rates(s.first, s.second, s.third)
-}
+impl Settings {
+    ghost use Rattle.fmtp.specs.Settings.{is_settings};
+    ghost use Rattle.fmtp.specs.Answers.{may_be_written};
 
-// Whether the writer takes these settings.
-pub(crate) fn may_be_written(s: Settings) -> bool
-    ensures { result ≡ may_be_written s }
-{
-    is_settings(s)
+    #[tactic(auto, unfolding(crate::specs::Settings::is_settings, crate::specs::Settings::is_tcmax))]
+    fn is_settings(self) -> bool
+        ensures { result ≡ is_settings self }
+    {
+        are_rates(self.first, self.second, self.third) && (1..=255).contains(&self.tcmax)
+    }
+
+    // Whether the writer takes these settings.
+    #[tactic(auto, unfolding(crate::specs::Answers::may_be_written))]
+    pub(crate) fn may_be_written(self) -> bool
+        ensures { result ≡ may_be_written self }
+    {
+        self.is_settings()
+    }
 }

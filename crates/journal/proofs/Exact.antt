@@ -8,6 +8,7 @@ use lib.ListN.{length, take, drop, length-append, take-append-drop}
 use lib.Seq.{length-take-le}
 use Rattle.octets.specs.Octet.{Octets}
 use Rattle.octets.proofs.Octet.{octets_behind}
+use Rattle.refusal.specs.declared.Reason.{Reason}
 use Rattle.journal.specs.Entry.{Entry, Legal, numeral, entry_octets}
 use Rattle.journal.specs.Reading.{entry, end, broken, number_then, body_then, behind_source, behind_ticks, reading_of}
 use Rattle.journal.specs.Broken.{numbered, AllNumbers, Broken, bad, cut, long, body}
@@ -17,7 +18,7 @@ use Rattle.journal.proofs.Steps.{Bodied, long as too_long, cut as tooShort, full
 never_entry : {e : Entry} {rest : List ℕ} → end ≡ entry e rest → ⊥
 never_entry e = let z : ◌≡◌ {A = ℕ} 0 1 = cc in omega arith
 
-never_broken : {k : ℕ} → end ≡ broken k → ⊥
+never_broken : {k : Reason} → end ≡ broken k → ⊥
 never_broken e = let z : ◌≡◌ {A = ℕ} 0 1 = cc in omega arith
 
 -- where there is something to read
@@ -94,26 +95,26 @@ module _ (xs : List ℕ) (o : Octets xs) where
   -- ---- a refusal, as it is said forwards
 
   module _ (some : xs ≡ [] → ⊥) where
-    in_body : (t s n : ℕ) (ys : List ℕ) → AllNumbers (t ∷ s ∷ n ∷ []) → xs ≡ numbered (t ∷ s ∷ n ∷ []) ys → {k : ℕ} → Bodied t s n ys (broken k) → Broken xs k
+    in_body : (t s n : ℕ) (ys : List ℕ) → AllNumbers (t ∷ s ∷ n ∷ []) → xs ≡ numbered (t ∷ s ∷ n ∷ []) ys → {k : Reason} → Bodied t s n ys (broken k) → Broken xs k
     in_body t s n ys hs e (too_long h) = long t s n ys hs e h
     in_body t s n ys hs e (tooShort h l) = body t s n ys hs e h l
 
-    in_length : (t s : ℕ) (ys : List ℕ) → AllNumbers (t ∷ s ∷ []) → xs ≡ numbered (t ∷ s ∷ []) ys → {k : ℕ} → Judged (body_then t s) ys (broken k) → Broken xs k
+    in_length : (t s : ℕ) (ys : List ℕ) → AllNumbers (t ∷ s ∷ []) → xs ≡ numbered (t ∷ s ∷ []) ys → {k : Reason} → Judged (body_then t s) ys (broken k) → Broken xs k
     in_length t s ys hs e (good n zs d h r) = in_body t s n zs (hs.0, (hs.1.0, (h, tt))) (rw d at e) (bodied_as t s n zs r)
     in_length t s ys hs e (begun b) = cut (t ∷ s ∷ []) ys (omega arith) hs e some b
     in_length t s ys hs e (impossible f) = bad (t ∷ s ∷ []) ys (omega arith) hs e f
 
-    in_source : (t : ℕ) (ys : List ℕ) → AllNumbers (t ∷ []) → xs ≡ numbered (t ∷ []) ys → Octets ys → {k : ℕ} → Judged (behind_source t) ys (broken k) → Broken xs k
+    in_source : (t : ℕ) (ys : List ℕ) → AllNumbers (t ∷ []) → xs ≡ numbered (t ∷ []) ys → Octets ys → {k : Reason} → Judged (behind_source t) ys (broken k) → Broken xs k
     in_source t ys hs e oy (good s zs d h r) = in_length t s zs (hs.0, (h, tt)) (rw d at e) (judged_as (body_then t s) zs (octets_behind (numeral s) zs d oy) r)
     in_source t ys hs e oy (begun b) = cut (t ∷ []) ys (omega arith) hs e some b
     in_source t ys hs e oy (impossible f) = bad (t ∷ []) ys (omega arith) hs e f
 
-    in_ticks : {k : ℕ} → Judged behind_ticks xs (broken k) → Broken xs k
+    in_ticks : {k : Reason} → Judged behind_ticks xs (broken k) → Broken xs k
     in_ticks (good t ys d h r) = let oy = octets_behind (numeral t) ys d o in in_source t ys (h, tt) d oy (judged_as (behind_source t) ys oy r)
     in_ticks (begun b) = cut [] xs (omega arith) tt refl some b
     in_ticks (impossible f) = bad [] xs (omega arith) tt refl f
 
-  pub broken_sound : {k : ℕ} → reading_of xs ≡ broken k → Broken xs k
+  pub broken_sound : {k : Reason} → reading_of xs ≡ broken k → Broken xs k
   broken_sound {k} q = in_ticks (λ e. never_broken (sym (ap reading_of e) ∙ q)) (judged_as behind_ticks xs o (sym (reading_not_nil xs (λ e. never_broken (sym (ap reading_of e) ∙ q))) ∙ q))
 
   -- behind one number, two, three
@@ -128,7 +129,7 @@ module _ (xs : List ℕ) (o : Octets xs) where
   three t s n ys h e = two t s (numeral n ++ ys) h.0 h.1.0 e ∙ then_complete (body_then t s) n ys h.1.1.0
 
   -- and what is said forwards is the refusal
-  pub broken_complete : {k : ℕ} → Broken xs k → reading_of xs ≡ broken k
+  pub broken_complete : {k : Reason} → Broken xs k → reading_of xs ≡ broken k
   broken_complete (bad [] rest few h e f) =
       reading_not_nil xs (λ z. f (possible_nil rest (sym e ∙ z))) ∙ then_impossible behind_ticks xs o (λ p. f (rw e at p))
   broken_complete (bad (t ∷ []) rest few h e f) = one t rest h.0 e ∙ then_impossible (behind_source t) rest (octets_behind (numeral t) rest e o) f

@@ -9,7 +9,9 @@ use Rattle.octets.specs.Octet.{Octets}
 use Rattle.octets.proofs.Octet.{octets_drop}
 use Rattle.journal.specs.Entry.{Entry, Legal, numeral, entry_octets}
 use Rattle.journal.specs.Reading.{Reading, entry, end, broken, reading_of}
-use Rattle.journal.specs.Broken.{Broken, bad, cut, long, body}
+use Rattle.journal.specs.Broken.{Broken}
+use Rattle.refusal.specs.Numbers.{number_of}
+use Rattle.refusal.specs.declared.Reason.{Reason}
 use Rattle.refusal.specs.Report.{Report}
 use Rattle.journal.specs.Answers.{Located, handed, nothing, reported, entry_at}
 use Rattle.journal.specs.Replay.{Ended, at_end, at_refusal}
@@ -100,7 +102,7 @@ pub end_complete : (xs : List ℕ) (a : ℕ) → drop a xs ≡ [] → entry_at x
 unfolding entry_at
 end_complete xs a q = ap (λ (l : List ℕ). reported (length xs) a (reading_of l)) q
 
-pub refused_complete : (xs : List ℕ) (a k : ℕ) → Octets xs → Broken (drop a xs) k → entry_at xs a ≡ nothing k a
+pub refused_complete : (xs : List ℕ) (a : ℕ) (k : Reason) → Octets xs → Broken (drop a xs) k → entry_at xs a ≡ nothing (number_of k) a
 unfolding entry_at
 refused_complete xs a k o b = ap (reported (length xs) a) (broken_complete (drop a xs) (octets_drop a xs o) b)
 
@@ -146,19 +148,13 @@ nothing_sound xs a o k p e = go (reading_of (drop a xs)) refl e
         let ep : p ≡ 0 = sym (ap (λ (r : Report Located). r.place) q) in
         rw (ek, ep) (at_end (end_sound (drop a xs) d))
     go (broken m) d q =
-        let ek : k ≡ m = sym (ap (λ (r : Report Located). r.number) q) in
+        let ek : k ≡ number_of m = sym (ap (λ (r : Report Located). r.number) q) in
         let ep : p ≡ a = sym (ap (λ (r : Report Located). r.place) q) in
         rw (ek, ep) (at_refusal (broken_sound (drop a xs) (octets_drop a xs o) d))
 
 -- octets that are refused begin with no legal entry's
-pub broken_no_entry : (xs : List ℕ) → Octets xs → {k : ℕ} → Broken xs k → (e : Entry) (rest : List ℕ) → Legal e → xs ≡ entry_octets e ++ rest → ⊥
+pub broken_no_entry : (xs : List ℕ) → Octets xs → {k : Reason} → Broken xs k → (e : Entry) (rest : List ℕ) → Legal e → xs ≡ entry_octets e ++ rest → ⊥
 broken_no_entry xs o {k} b e rest l q =
     let d : broken k ≡ entry e rest = sym (broken_complete xs o b) ∙ ap reading_of q ∙ entry_complete e rest l in
     let z : ◌≡◌ {A = ℕ} 0 1 = cc in
     omega arith
-
-pub broken_number : {xs : List ℕ} {k : ℕ} → Broken xs k → 1 ≤ k
-broken_number (bad ns rest few h e f) = omega arith
-broken_number (cut ns rest few h e ne b) = omega arith
-broken_number (long t s n rest h e l) = omega arith
-broken_number (body t s n rest h e l f) = omega arith

@@ -9,11 +9,13 @@ use Rattle.octets.specs.Octet.{Octets}
 use Rattle.octets.proofs.Octet.{octets_behind, octets_drop}
 use Rattle.journal.specs.Entry.{Entry, entry_octets, journal_octets, AllLegal}
 use Rattle.journal.specs.Reading.{Reading, entry, end, broken, reading_of}
+use Rattle.refusal.specs.Numbers.{number_of}
 use Rattle.refusal.specs.Report.{Report}
+use Rattle.refusal.proofs.NumberLaws.{number_of-least}
 use Rattle.journal.specs.Answers.{Located, handed, nothing}
 use Rattle.journal.specs.Replay.{Ending, whole, Replay, stops, goes, Ended, at_end, at_refusal, Holds, RefusedAt}
 use Rattle.journal.proofs.Exact.{entry_sound, end_sound, broken_sound}
-use Rattle.journal.proofs.Indices.{octets_some, handed_complete, end_complete, refused_complete, handed_sound, nothing_sound, broken_no_entry, broken_number}
+use Rattle.journal.proofs.Indices.{octets_some, handed_complete, end_complete, refused_complete, handed_sound, nothing_sound, broken_no_entry}
 
 -- ---- from an index on
 
@@ -44,9 +46,9 @@ module _ (xs : List ℕ) (oct : Octets xs) where
   back : (es : List Entry) (a : ℕ) (rest : List ℕ) {o : Ending} → a ≤ length xs → AllLegal es → drop a xs ≡ journal_octets es ++ rest
       → Ended rest (a + length (journal_octets es)) o → Replay xs a es o
   back [] a rest h l q (at_end e) = stops (end_complete xs a (q ∙ e))
-  back [] a rest h l q (at_refusal {k = k} b) =
+  back [] a rest h l q (at_refusal {r = r} b) =
       let z : a + 0 ≡ a = omega arith in
-      rw z (stops (refused_complete xs a k oct (rw q b)))
+      rw z (stops (refused_complete xs a r oct (rw q b)))
   back (e ∷ es) a rest h l q d =
       let p = handed_complete xs a e (journal_octets es ++ rest) h l.0 (q ∙ append_assoc (entry_octets e) (journal_octets es) rest) in
       let z : a + length (entry_octets e ++ journal_octets es) ≡ p.next + length (journal_octets es) = omega (arith, p.after, length-append (entry_octets e) (journal_octets es)) in
@@ -71,20 +73,21 @@ module _ (xs : List ℕ) (oct : Octets xs) where
     where
       nothing_left : {rest : List ℕ} {p : ℕ} {o : Ending} → Ended rest p o → o.number ≡ 0 → rest ≡ []
       nothing_left (at_end e) z = e
-      nothing_left (at_refusal b) z = absurd (omega (arith, broken_number b))
+      nothing_left (at_refusal {r = r} b) z = absurd (omega (arith, number_of-least r))
 
   pub refused_journal : (es : List Entry) (k p : ℕ) → 1 ≤ k → Holds xs es (record { number = k; place = p }) → RefusedAt xs es k p
   refused_journal es k p some h = go h.ended refl
     where
       go : {o : Ending} → Ended h.rest (length (journal_octets es)) o → o ≡ record { number = k; place = p } → RefusedAt xs es k p
       go (at_end e) q = absurd (omega (arith, ap (λ (o : Ending). o.number) q))
-      go (at_refusal b) q =
-          let ek = ap (λ (o : Ending). o.number) q in
+      go (at_refusal {r = r} b) q =
           record {
             rest = h.rest;
             text = h.text;
             place = sym (ap (λ (o : Ending). o.place) q);
-            why = rw ek at b;
+            reason = r;
+            number = sym (ap (λ (o : Ending). o.number) q);
+            why = b;
             no_entry = broken_no_entry h.rest (octets_behind (journal_octets es) h.rest h.text oct) b;
           }
 
@@ -144,4 +147,4 @@ some_reading xs oct = from (length xs) 0 (omega arith) (omega arith)
             }
         go ih end q = record { entries = []; ending = whole; replay = stops (end_complete xs a (end_sound (drop a xs) q)) }
         go ih (broken k) q =
-            record { entries = []; ending = record { number = k; place = a }; replay = stops (refused_complete xs a k oct (broken_sound (drop a xs) (octets_drop a xs oct) q)) }
+            record { entries = []; ending = record { number = number_of k; place = a }; replay = stops (refused_complete xs a k oct (broken_sound (drop a xs) (octets_drop a xs oct) q)) }

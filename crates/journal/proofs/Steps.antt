@@ -9,17 +9,21 @@ use borrow.Author.Tests.{lt-ltb, le-ltb}
 use lib.Dec.{ltb}
 use lib.ListN.{length, take, drop, length-append}
 use lib.Seq.{take_at, drop_at}
+use Rattle.std.specs.Prelude.{Ok, Err}
 use Rattle.octets.specs.Octet.{Octets}
 use Rattle.leb128.specs.Number.{groups_of, Within, Head, number, short, none, head_of, found_at}
 use Rattle.leb128.specs.Possible.{Possible, Begun}
 use Rattle.leb128.specs.declared.Found.{Found}
-use Rattle.leb128.specs.declared.Found.TheVariants as found
+use Rattle.leb128.specs.declared.NumberError.{NumberError}
+use Rattle.leb128.specs.declared.NumberError.TheVariants.{Short, Bad}
+use Rattle.refusal.specs.declared.Reason.TheVariants.{TooLong, BadNumber, EntryCut}
 use Rattle.octets.proofs.Order.{below_or}
 use Rattle.leb128.proofs.Exact.{sound, complete}
 use Rattle.leb128.proofs.Groups.{groups_some}
 use Rattle.leb128.proofs.Joining.{found_number, found_short, found_bad}
 use Rattle.leb128.proofs.Possible.{Roomy, short_begun, begun_short, none_impossible, impossible_none}
 use Rattle.journal.specs.Entry.{numeral}
+use Rattle.journal.specs.Answers.{number_reason}
 use Rattle.journal.specs.Reading.{Reading, entry, end, broken, judged, number_then, body_then}
 
 -- ---- a number
@@ -37,38 +41,35 @@ pub within : (n : ℕ) → n ≤ 4294967295 → Within 5 4294967295 n
 within n h = record { groups = omega arith; small = h }
 
 module _ (onward : ℕ → List ℕ → Reading) where
-  -- as the code's branches ask for it
-  module _ (xs : List ℕ) (i : ℕ) {f : Found} (e : f ≡ found_at 5 4294967295 xs i) where
-    pub then_number : (n s : ℕ) → f ≡ found.Number n s → onward n (drop s xs) ≡ number_then onward (drop i xs)
+  -- as it is found at an index
+  module _ (xs : List ℕ) (i : ℕ) where
+    pub then_number : (f : Found) → found_at 5 4294967295 xs i ≡ Ok f → number_then onward (drop i xs) ≡ onward f.number (drop f.next xs)
     unfolding number_then
-    then_number n s q = ap (judged onward) (sym (found_number 5 4294967295 xs i n s (sym e ∙ q)).head)
+    then_number f q = ap (judged onward) (found_number 5 4294967295 xs i f.number f.next q).head
 
-    pub then_short : f ≡ found.Short → broken 19 ≡ number_then onward (drop i xs)
+    pub then_none : (e : NumberError) → found_at 5 4294967295 xs i ≡ Err e → number_then onward (drop i xs) ≡ broken (number_reason e)
     unfolding number_then
-    then_short q = ap (judged onward) (sym (found_short 5 4294967295 xs i (sym e ∙ q)).head)
-
-    pub then_bad : f ≡ found.Bad → broken 18 ≡ number_then onward (drop i xs)
-    unfolding number_then
-    then_bad q = ap (judged onward) (sym (found_bad 5 4294967295 xs i (sym e ∙ q)))
+    then_none Short q = ap (judged onward) (found_short 5 4294967295 xs i q).head
+    then_none Bad q = ap (judged onward) (found_bad 5 4294967295 xs i q)
 
   -- forwards
   pub then_complete : (n : ℕ) (rest : List ℕ) → n ≤ 4294967295 → number_then onward (numeral n ++ rest) ≡ onward n rest
   unfolding number_then numeral
   then_complete n rest h = ap (judged onward) (complete 5 4294967295 (omega arith) (omega arith) n rest (within n h))
 
-  pub then_begun : (xs : List ℕ) → Begun 5 4294967295 xs → number_then onward xs ≡ broken 19
+  pub then_begun : (xs : List ℕ) → Begun 5 4294967295 xs → number_then onward xs ≡ broken EntryCut
   unfolding number_then
   then_begun xs b = ap (judged onward) (begun_short 5 4294967295 roomy xs b).head
 
-  pub then_impossible : (xs : List ℕ) → Octets xs → (Possible 5 4294967295 xs → ⊥) → number_then onward xs ≡ broken 18
+  pub then_impossible : (xs : List ℕ) → Octets xs → (Possible 5 4294967295 xs → ⊥) → number_then onward xs ≡ broken BadNumber
   unfolding number_then
   then_impossible xs o f = ap (judged onward) (impossible_none 5 4294967295 roomy xs o f)
 
   -- and back: the cases
   pub data Judged (xs : List ℕ) : Reading → Type 0 where
     good : {r : Reading} (n : ℕ) (rest : List ℕ) → xs ≡ numeral n ++ rest → n ≤ 4294967295 → onward n rest ≡ r → Judged xs r
-    begun : Begun 5 4294967295 xs → Judged xs (broken 19)
-    impossible : (Possible 5 4294967295 xs → ⊥) → Judged xs (broken 18)
+    begun : Begun 5 4294967295 xs → Judged xs (broken EntryCut)
+    impossible : (Possible 5 4294967295 xs → ⊥) → Judged xs (broken BadNumber)
 
   pub judged_as : (xs : List ℕ) → Octets xs → {r : Reading} → number_then onward xs ≡ r → Judged xs r
   unfolding number_then numeral
@@ -99,18 +100,18 @@ then_goes onward f xs e = go (head_of 5 4294967295 xs) e
     go (short v k) q = let z : ◌≡◌ {A = ℕ} 0 1 = cc in omega arith
     go none q = let z : ◌≡◌ {A = ℕ} 0 1 = cc in omega arith
 
-pub then_within : (xs : List ℕ) (i : ℕ) {f : Found} → f ≡ found_at 5 4294967295 xs i → (n s : ℕ) → f ≡ found.Number n s → s ≤ length xs
-then_within xs i e n s q = (found_number 5 4294967295 xs i n s (sym e ∙ q)).within
+pub found_within : (xs : List ℕ) (i : ℕ) (f : Found) → found_at 5 4294967295 xs i ≡ Ok f → f.next ≤ length xs
+found_within xs i f q = (found_number 5 4294967295 xs i f.number f.next q).within
 
 -- ---- the body
 
 module _ (t s n : ℕ) (xs : List ℕ) where
-  pub body_long : 1400 < n → broken 1 ≡ body_then t s n xs
+  pub body_long : 1400 < n → broken TooLong ≡ body_then t s n xs
   unfolding body_then
   body_long h = simp (lt-ltb 1400 n h)
 
   module _ (h : n ≤ 1400) where
-    pub body_cut : length xs < n → broken 19 ≡ body_then t s n xs
+    pub body_cut : length xs < n → broken EntryCut ≡ body_then t s n xs
     unfolding body_then
     body_cut l = simp (le-ltb 1400 n h, lt-ltb (length xs) n l)
 
@@ -119,8 +120,8 @@ module _ (t s n : ℕ) (xs : List ℕ) where
     body_full l = simp (le-ltb 1400 n h, le-ltb (length xs) n l)
 
   pub data Bodied : Reading → Type 0 where
-    long : 1400 < n → Bodied (broken 1)
-    cut : n ≤ 1400 → length xs < n → Bodied (broken 19)
+    long : 1400 < n → Bodied (broken TooLong)
+    cut : n ≤ 1400 → length xs < n → Bodied (broken EntryCut)
     full : n ≤ 1400 → n ≤ length xs → Bodied (entry (record { ticks = t; source = s; payload = take n xs }) (drop n xs))
 
   pub bodied_as : {r : Reading} → body_then t s n xs ≡ r → Bodied r
@@ -135,7 +136,7 @@ pub body_goes : (t s n : ℕ) (xs : List ℕ) → body_then t s n xs ≡ end →
 unfolding body_then
 body_goes t s n xs e = go (ltb 1400 n) (ltb (length xs) n) e
   where
-    go : (a b : Bool) → cond a (broken 1) (cond b (broken 19) (entry (record { ticks = t; source = s; payload = take n xs }) (drop n xs))) ≡ end → ⊥
+    go : (a b : Bool) → cond a (broken TooLong) (cond b (broken EntryCut) (entry (record { ticks = t; source = s; payload = take n xs }) (drop n xs))) ≡ end → ⊥
     go true b q = let z : ◌≡◌ {A = ℕ} 0 1 = cc in omega arith
     go false true q = let z : ◌≡◌ {A = ℕ} 0 1 = cc in omega arith
     go false false q = let z : ◌≡◌ {A = ℕ} 0 1 = cc in omega arith

@@ -1,24 +1,26 @@
 -- What the writer's functions leave and answer, as the branches of their code ask for it.
 use mathlib.Core.Path.{◌≡◌, refl, sym, ap, ◌∙◌}
 use mathlib.Core.Logic.{◌⊎◌, inl, inr}
-use mathlib.Core.Bool.{false}
 use mathlib.Core.List.{List, [], ◌++◌, append_assoc}
 use Prim.Native.Nat.{ℕ, ◌+◌, ◌-◌, ◌≤◌, ◌<◌}
 use native.Mathlib.Nat.{zero-add}
 use native.Mathlib.Omega.{arith}
-use borrow.Author.Tests.{lt-ltb, le-ltb}
-use lib.Dec.{eqb}
+use Rattle.std.specs.Prelude.{Ok, Err}
+use Rattle.std.proofs.lemmas.Bool.{lt-ltb, le-ltb, ne_eqb, cases_lt}
 use lib.ListN.{length, take, drop, length-append}
 use Rattle.octets.specs.Copy.{over}
 use Rattle.octets.specs.Put.{put}
 use Rattle.octets.proofs.Put.{put-put, put_copy, length-put}
-use Rattle.octets.proofs.Order.{below_or}
 use Rattle.leb128.specs.Writing.{octets_of, with_number, number_end}
 use Rattle.leb128.proofs.Writing.{octets_of_lem, room}
+use Rattle.refusal.specs.Numbers.{number_of}
+use Rattle.refusal.specs.declared.Refusal.{Refusal}
+use Rattle.refusal.specs.declared.Reason.{Reason}
+use Rattle.refusal.specs.declared.Reason.TheVariants.{TooLong, OctetsTooShort, BadNumber}
+use Rattle.refusal.proofs.NumberLaws.{number_of-least}
 use Rattle.journal.specs.Entry.{Entry, Legal, numeral, entry_octets}
 use Rattle.refusal.specs.Report.{Report, accepted, refused_with, refusal, filled}
 use Rattle.journal.specs.Answers.{writing, Writes}
-use Rattle.journal.specs.declared.Written.TheVariants as written
 
 -- ---- numbers one after another
 
@@ -95,10 +97,10 @@ module _ (t s : ℕ) (p : List ℕ) where
     long₃ : length ((numeral t ++ numeral s) ++ numeral (length p)) ≡ length (numeral t) + length (numeral s) + length (numeral (length p))
     long₃ = length-append (numeral t ++ numeral s) (numeral (length p)) ∙ ap (λ (i : ℕ). i + length (numeral (length p))) (length-append (numeral t) (numeral s))
 
-    pub start_within : r₃ ≤ size
+    start_within : r₃ ≤ size
     start_within = omega (arith, entry_long, numbers.end, long₃)
 
-    pub entry-put : {y : List ℕ} → y ≡ over p (take (size - r₃) (drop r₃ o₃)) → take r₃ o₃ ++ (y ++ drop (size - r₃) (drop r₃ o₃)) ≡ entry_octets e ++ drop size o
+    entry-put : {y : List ℕ} → y ≡ over p (take (size - r₃) (drop r₃ o₃)) → take r₃ o₃ ++ (y ++ drop (size - r₃) (drop r₃ o₃)) ≡ entry_octets e ++ drop size o
     entry-put ey =
         front_copy numbers p size (omega (arith, entry_long, long₃)) l ey
         ∙ ap (λ (x : List ℕ). x ++ drop size o)
@@ -108,41 +110,57 @@ module _ (t s : ℕ) (p : List ℕ) where
 
 module _ (e : Entry) (before : List ℕ) where
   -- a refusal leaves the octets as they are
-  not_written : (n p : ℕ) → eqb n 0 ≡ false → writing e (length before) ≡ refused_with 0 (refusal n p)
-      → Writes e before before (written.Refused (record { number = n; place = p }))
+  not_written : (r : Reason) (p : ℕ) {x : Refusal} → x ≡ refusal r p → writing e (length before) ≡ refused_with 0 (refusal r p) → Writes e before before (Err x)
   unfolding filled
-  not_written n p z q = record { answer = sym q; octets = rw (q, z) }
+  not_written r p d q =
+      record { answer = rw d (sym q); octets = rw (q, ne_eqb (number_of r) 0 (λ z. omega (arith, number_of-least r))) refl }
 
-  pub write_18_ticks : 4294967295 < e.ticks → Writes e before before (written.Refused (record { number = 18; place = 0 }))
+  pub write_ticks : {x : Refusal} → x ≡ refusal BadNumber 0 → 4294967295 < e.ticks → Writes e before before (Err x)
   unfolding writing
-  write_18_ticks h = not_written 18 0 refl (simp (lt-ltb 4294967295 e.ticks h))
+  write_ticks d h = not_written BadNumber 0 d (simp (lt-ltb 4294967295 e.ticks h))
 
   module _ (ht : e.ticks ≤ 4294967295) where
-    pub write_18_source : 4294967295 < e.source → Writes e before before (written.Refused (record { number = 18; place = 0 }))
+    pub write_source : {x : Refusal} → x ≡ refusal BadNumber 0 → 4294967295 < e.source → Writes e before before (Err x)
     unfolding writing
-    write_18_source h = not_written 18 0 refl (simp (le-ltb 4294967295 e.ticks ht, lt-ltb 4294967295 e.source h))
+    write_source d h = not_written BadNumber 0 d (simp (le-ltb 4294967295 e.ticks ht, lt-ltb 4294967295 e.source h))
 
     module _ (hs : e.source ≤ 4294967295) where
-      pub write_1 : 1400 < length e.payload → Writes e before before (written.Refused (record { number = 1; place = 1400 }))
+      pub write_long : {x : Refusal} → x ≡ refusal TooLong 1400 → 1400 < length e.payload → Writes e before before (Err x)
       unfolding writing
-      write_1 h =
-          not_written 1 1400 refl (simp (le-ltb 4294967295 e.ticks ht, le-ltb 4294967295 e.source hs, lt-ltb 1400 (length e.payload) h))
+      write_long d h =
+          not_written TooLong 1400 d (simp (le-ltb 4294967295 e.ticks ht, le-ltb 4294967295 e.source hs, lt-ltb 1400 (length e.payload) h))
 
-      module _ (hp : length e.payload ≤ 1400) {size : ℕ} (es : size ≡ length (entry_octets e)) where
-        pub write_10 : length before < size → Writes e before before (written.Refused (record { number = 10; place = size }))
+      -- the entry is legal, and its octets are counted
+      module _ (hp : length e.payload ≤ 1400) {a b c : ℕ} (ea : a ≡ length (octets_of e.ticks)) (eb : b ≡ length (octets_of e.source))
+          (ec : c ≡ length (octets_of (length e.payload))) where
+        legal : Legal e
+        legal = record { ticks = ht; source = hs; payload = hp }
+
+        counted : a + b + c + length e.payload ≡ length (entry_octets e)
+        counted = entry_size e.ticks e.source e.payload legal ea eb ec
+
+        pub write_short : {x : Refusal} → x ≡ refusal OctetsTooShort (a + b + c + length e.payload) → length before < a + b + c + length e.payload → Writes e before before (Err x)
         unfolding writing
-        write_10 h =
-            not_written 10 size refl
-            (rw es
-            (simp (le-ltb 4294967295 e.ticks ht, le-ltb 4294967295 e.source hs, le-ltb 1400 (length e.payload) hp, lt-ltb (length before) (length (entry_octets e)) (omega arith))))
+        write_short d h =
+            not_written OctetsTooShort (a + b + c + length e.payload) d
+            (rw counted
+            (simp (le-ltb 4294967295 e.ticks ht, le-ltb 4294967295 e.source hs, le-ltb 1400 (length e.payload) hp, lt-ltb (length before) (length (entry_octets e)) (omega (arith, counted)))))
 
-        pub write_all : size ≤ length before → {after : List ℕ} → after ≡ entry_octets e ++ drop size before → Writes e before after (written.Octets size)
-        unfolding writing filled
-        write_all h q =
-            let a : writing e (length before) ≡ accepted size =
-            rw es
-            (simp (le-ltb 4294967295 e.ticks ht, le-ltb 4294967295 e.source hs, le-ltb 1400 (length e.payload) hp, le-ltb (length before) (length (entry_octets e)) (omega arith))) in
-            record { answer = sym a; octets = rw a q }
+        module _ (h : a + b + c + length e.payload ≤ length before) {o₁ o₂ o₃ : List ℕ} {r₁ r₂ r₃ : ℕ}
+            (e₁ : (o₁ ≡ with_number before 0 e.ticks) × (r₁ ≡ number_end before 0 e.ticks))
+            (e₂ : (o₂ ≡ with_number o₁ r₁ e.source) × (r₂ ≡ number_end o₁ r₁ e.source))
+            (e₃ : (o₃ ≡ with_number o₂ r₂ (length e.payload)) × (r₃ ≡ number_end o₂ r₂ (length e.payload))) where
+          pub payload_start : r₃ ≤ a + b + c + length e.payload
+          payload_start = start_within e.ticks e.source e.payload before legal counted h e₁ e₂ e₃
+
+          pub write_all : {y : List ℕ} → y ≡ over e.payload (take (a + b + c + length e.payload - r₃) (drop r₃ o₃))
+              → Writes e before (take r₃ o₃ ++ (y ++ drop (a + b + c + length e.payload - r₃) (drop r₃ o₃))) (Ok (a + b + c + length e.payload))
+          unfolding writing filled
+          write_all ey =
+              let w : writing e (length before) ≡ accepted (a + b + c + length e.payload) =
+              rw counted
+              (simp (le-ltb 4294967295 e.ticks ht, le-ltb 4294967295 e.source hs, le-ltb 1400 (length e.payload) hp, le-ltb (length before) (length (entry_octets e)) (omega (arith, counted)))) in
+              record { answer = sym w; octets = rw w (entry-put e.ticks e.source e.payload before legal counted h e₁ e₂ e₃ ey) }
 
 -- ---- the writer accepts exactly the legal entries for which there is room
 
@@ -154,21 +172,21 @@ legal_written e room h l =
 pub written_legal : (e : Entry) (room n : ℕ) → writing e room ≡ accepted n → Legal e × (n ≡ length (entry_octets e)) × (n ≤ room)
 unfolding writing
 written_legal e room n q =
-    go (below_or 4294967295 e.ticks) (below_or 4294967295 e.source) (below_or 1400 (length e.payload)) (below_or room (length (entry_octets e)))
+    go (cases_lt 4294967295 e.ticks) (cases_lt 4294967295 e.source) (cases_lt 1400 (length e.payload)) (cases_lt room (length (entry_octets e)))
   where
-    never : (k p : ℕ) → 1 ≤ k → refused_with 0 (refusal k p) ≡ writing e room → ⊥
-    never k p h d = omega (arith, ap (λ (o : Report ℕ). o.number) (d ∙ q))
+    never : (r : Reason) (p : ℕ) → refused_with 0 (refusal r p) ≡ writing e room → ⊥
+    never r p d = omega (arith, number_of-least r, ap (λ (o : Report ℕ). o.number) (d ∙ q))
 
     go : (4294967295 < e.ticks) ⊎ (e.ticks ≤ 4294967295) → (4294967295 < e.source) ⊎ (e.source ≤ 4294967295)
         → (1400 < length e.payload) ⊎ (length e.payload ≤ 1400) → (room < length (entry_octets e)) ⊎ (length (entry_octets e) ≤ room)
         → Legal e × (n ≡ length (entry_octets e)) × (n ≤ room)
-    go (inl a) b c d = absurd (never 18 0 (omega arith) (simp (lt-ltb 4294967295 e.ticks a)))
-    go (inr a) (inl b) c d = absurd (never 18 0 (omega arith) (simp (le-ltb 4294967295 e.ticks a, lt-ltb 4294967295 e.source b)))
+    go (inl a) b c d = absurd (never BadNumber 0 (simp (lt-ltb 4294967295 e.ticks a)))
+    go (inr a) (inl b) c d = absurd (never BadNumber 0 (simp (le-ltb 4294967295 e.ticks a, lt-ltb 4294967295 e.source b)))
     go (inr a) (inr b) (inl c) d =
-        absurd (never 1 1400 (omega arith) (simp (le-ltb 4294967295 e.ticks a, le-ltb 4294967295 e.source b, lt-ltb 1400 (length e.payload) c)))
+        absurd (never TooLong 1400 (simp (le-ltb 4294967295 e.ticks a, le-ltb 4294967295 e.source b, lt-ltb 1400 (length e.payload) c)))
     go (inr a) (inr b) (inr c) (inl d) =
         absurd
-        (never 10 (length (entry_octets e)) (omega arith)
+        (never OctetsTooShort (length (entry_octets e))
         (simp (le-ltb 4294967295 e.ticks a, le-ltb 4294967295 e.source b, le-ltb 1400 (length e.payload) c, lt-ltb room (length (entry_octets e)) d)))
     go (inr a) (inr b) (inr c) (inr d) =
         let h : Legal e = record { ticks = a; source = b; payload = c } in

@@ -1,33 +1,33 @@
 -- What the journal's functions answer, in numbers, and what the lent memory then holds: docs/FORMAT.md, "Journal".
-use Rattle.std.specs.Prelude.{◌≡◌, cond, ◌||◌, List, ℕ, ◌+◌, ◌-◌, ltb, length, take, drop}
-use Rattle.refusal.specs.Numbers.{too_long, octets_too_short, bad_number}
-use Rattle.refusal.specs.Report.{Report, accepted, refused_with, refusal, filled}
+use Rattle.std.specs.Prelude.{◌≡◌, cond, ◌||◌, List, ℕ, ◌+◌, ◌-◌, ltb, length, take, drop, Option, Some, None, Result, Ok, Err}
+use Rattle.std.specs.Result.{result_map_both}
+use Rattle.refusal.specs.Numbers.{number_of}
+use Rattle.refusal.specs.Report.{Report, accepted, refused_with, report_of, refusal, filled}
+use Rattle.refusal.specs.declared.Reason.{Reason}
+use Rattle.refusal.specs.declared.Reason.TheVariants.{TooLong, OctetsTooShort, BadNumber, EntryCut}
+use Rattle.refusal.specs.declared.Refusal.{Refusal}
 use Rattle.octets.specs.Part.{Part}
-use Rattle.journal.specs.Entry.{Entry, top_number, most_octets, entry_octets}
+use Rattle.leb128.specs.Number.{found_at}
+use Rattle.leb128.specs.declared.Found.{Found}
+use Rattle.leb128.specs.declared.NumberError.{NumberError}
+use Rattle.leb128.specs.declared.NumberError.TheVariants.{Short, Bad}
+use Rattle.journal.specs.Entry.{Entry, most_groups, top_number, most_octets, entry_octets}
 use Rattle.journal.specs.Reading.{Reading, entry, end, broken, reading_of}
-use Rattle.journal.specs.declared.Standing.{Standing}
-use Rattle.journal.specs.declared.Standing.TheVariants as stands
-use Rattle.journal.specs.declared.Written.{Written}
-use Rattle.journal.specs.declared.Written.TheVariants as written
+use Rattle.journal.specs.declared.Entry.{Entry as Place}
 
 -- ---- the writer
-
--- the numbers for each case of what `write_entry` answers
-abbrev pub written_report : Written → Report ℕ
-written_report (written.Octets n) = accepted n
-written_report (written.Refused r) = refused_with 0 r
 
 -- "writer: 18, 1, 10", with room for so many octets
 unfoldable pub writing : Entry → ℕ → Report ℕ
 writing e room =
-    cond (ltb top_number e.ticks || ltb top_number e.source) (refused_with 0 (refusal bad_number 0))
-    (cond (ltb most_octets (length e.payload)) (refused_with 0 (refusal too_long most_octets))
-    (cond (ltb room (length (entry_octets e))) (refused_with 0 (refusal octets_too_short (length (entry_octets e))))
+    cond (ltb top_number e.ticks || ltb top_number e.source) (refused_with 0 (refusal BadNumber 0))
+    (cond (ltb most_octets (length e.payload)) (refused_with 0 (refusal TooLong most_octets))
+    (cond (ltb room (length (entry_octets e))) (refused_with 0 (refusal OctetsTooShort (length (entry_octets e))))
     (accepted (length (entry_octets e)))))
 
 -- what `write_entry` promises: its answer, and the lent octets afterwards
-pub record Writes (e : Entry) (before after : List ℕ) (r : Written) : Type 0 where
-  pub answer : written_report r ≡ writing e (length before)
+pub record Writes (e : Entry) (before after : List ℕ) (r : Result ℕ Refusal) : Type 0 where
+  pub answer : report_of 0 r ≡ writing e (length before)
   pub octets : after ≡ filled (writing e (length before)) (entry_octets e) before
 
 -- ---- the reader
@@ -51,28 +51,31 @@ handed t s a b = accepted (record { entries = 1; ticks = t; source = s; start = 
 
 -- no entry: a refusal, or the end, whose number and place are 0
 abbrev pub nothing : ℕ → ℕ → Report Located
-nothing n p = refused_with no_entry (refusal n p)
+nothing n p = record { number = n; place = p; value = no_entry }
+
+-- the numbers of what stands at an index
+abbrev pub located_of : Option Place → Located
+located_of (Some e) = record { entries = 1; ticks = e.ticks; source = e.source; start = e.start; next = e.next }
+located_of None = no_entry
 
 -- the numbers for each case of what `entry_at` answers
-abbrev pub standing_report : Standing → Report Located
-standing_report (stands.Entry t s a b) = handed t s a b
-standing_report stands.End = accepted no_entry
-standing_report (stands.Refused r) = refused_with no_entry r
+abbrev pub standing_report : Result (Option Place) Refusal → Report Located
+standing_report r = report_of no_entry (result_map_both located_of (λ x. x) r)
 
 -- what reading from the index a on comes to, of n octets: "its place is where the refused entry begins"
 abbrev pub reported : ℕ → ℕ → Reading → Report Located
 reported n a (entry e rest) = handed e.ticks e.source (n - length rest - length e.payload) (n - length rest)
 reported n a end = accepted no_entry
-reported n a (broken k) = nothing k a
+reported n a (broken r) = nothing (number_of r) a
 
 -- the same, as `entry_at` answers it
-abbrev pub standing_of : ℕ → ℕ → Reading → Standing
-standing_of n a (entry e rest) = stands.Entry e.ticks e.source (n - length rest - length e.payload) (n - length rest)
-standing_of n a end = stands.End
-standing_of n a (broken k) = stands.Refused (refusal k a)
+abbrev pub standing_of : ℕ → ℕ → Reading → Result (Option Place) Refusal
+standing_of n a (entry e rest) = Ok (Some (record { ticks = e.ticks; source = e.source; start = n - length rest - length e.payload; next = n - length rest }))
+standing_of n a end = Ok None
+standing_of n a (broken r) = Err (refusal r a)
 
 -- what stands at the index a of the octets xs
-unfoldable pub standing_at : List ℕ → ℕ → Standing
+unfoldable pub standing_at : List ℕ → ℕ → Result (Option Place) Refusal
 standing_at xs a = standing_of (length xs) a (reading_of (drop a xs))
 
 -- the numbers of the entry at the index a of the octets xs
@@ -80,9 +83,18 @@ unfoldable pub entry_at : List ℕ → ℕ → Report Located
 entry_at xs a = reported (length xs) a (reading_of (drop a xs))
 
 -- what `entry_at` promises of the journal xs and the index a
-pub record Stands (xs : List ℕ) (a : ℕ) (r : Standing) : Type 0 where
+pub record Stands (xs : List ℕ) (a : ℕ) (r : Result (Option Place) Refusal) : Type 0 where
   pub answer : r ≡ standing_at xs a
   pub numbers : standing_report r ≡ entry_at xs a
+
+-- why an entry is refused, where a number of it is none
+abbrev pub number_reason : NumberError → Reason
+number_reason Short = EntryCut
+number_reason Bad = BadNumber
+
+-- the number at the index i of the octets xs, of the entry that begins at a
+abbrev pub entry_number : List ℕ → ℕ → ℕ → Result Found Refusal
+entry_number xs i a = result_map_both (λ f. f) (λ e. refusal (number_reason e) a) (found_at most_groups top_number xs i)
 
 -- the payload of an entry that is reported of the journal j; the empty part at its start where none is
 abbrev pub payload_of : {A : Type 0} → Report Located → Part A → Part A

@@ -1,5 +1,7 @@
 -- "Reading goes entry by entry": calls of `entry_at` one after another, each from where the last entry ended.
 use Rattle.std.specs.Prelude.{◌≡◌, List, [], ◌∷◌, ◌++◌, ℕ, ◌-◌, length, take, drop}
+use Rattle.refusal.specs.Numbers.{number_of}
+use Rattle.refusal.specs.declared.Reason.{Reason}
 use Rattle.journal.specs.Entry.{Entry, Legal, entry_octets, journal_octets, AllLegal}
 use Rattle.journal.specs.Broken.{Broken}
 use Rattle.journal.specs.Answers.{handed, nothing, entry_at}
@@ -19,11 +21,11 @@ pub data Replay (xs : List ℕ) : ℕ → List Entry → Ending → Type 0 where
   goes : {a : ℕ} {es : List Entry} {o : Ending} (t s b n : ℕ) → entry_at xs a ≡ handed t s b n → Replay xs n es o
       → Replay xs a (record { ticks = t; source = s; payload = take (n - b) (drop b xs) } ∷ es) o
 
--- what is left behind the entries: nothing, at the journal's end; or octets that are refused with the number, and the place is
+-- what is left behind the entries: nothing, at the journal's end; or octets that are refused with a number, and the place is
 -- where they begin
 pub data Ended (rest : List ℕ) (p : ℕ) : Ending → Type 0 where
   at_end : rest ≡ [] → Ended rest p whole
-  at_refusal : {k : ℕ} → Broken rest k → Ended rest p (record { number = k; place = p })
+  at_refusal : {r : Reason} → Broken rest r → Ended rest p (record { number = number_of r; place = p })
 
 -- "entries handed out before a refusal stand, and its place is where the refused entry begins, in octets from the journal's
 -- start": the octets xs are those of these legal entries, and then a rest that ends so
@@ -39,5 +41,7 @@ pub record RefusedAt (xs : List ℕ) (es : List Entry) (k p : ℕ) : Type 0 wher
   pub rest : List ℕ
   pub text : xs ≡ journal_octets es ++ rest
   pub place : p ≡ length (journal_octets es)
-  pub why : Broken rest k
+  pub reason : Reason
+  pub number : k ≡ number_of reason
+  pub why : Broken rest reason
   pub no_entry : (e : Entry) (more : List ℕ) → Legal e → rest ≡ entry_octets e ++ more → ⊥

@@ -4,15 +4,16 @@ use mathlib.Core.Path.{◌≡◌, refl, sym, ap, ◌∙◌}
 use mathlib.Core.Logic.{◌⊎◌, inl, inr}
 use mathlib.Core.List.{List, [], ◌∷◌, ◌++◌}
 use Prim.Native.Nat.{ℕ, zero, suc, ◌+◌, ◌-◌, ◌*◌, ◌/◌, ◌%◌, ◌^◌, ◌≤◌, ◌<◌}
-use native.Mathlib.Nat.{pow-suc, one-le-pow, zero-mul, add-mul, mul_assoc, mul_right_comm}
+use native.Mathlib.Nat.{pow-suc, one-le-pow, add-mul, mul_assoc, mul_right_comm}
 use native.Mathlib.Numerals.{add-one}
 use native.Mathlib.Omega.{arith}
 use lib.ListN.{get_or}
 use Rattle.leb128.specs.Number.{groups_of, Within, Partial, last_group, more_groups, step_of, Head, number, none, head_from, head_of}
+use Rattle.std.specs.Prelude.{Option, Some, None}
 use Rattle.leb128.specs.declared.Group.{Group}
-use Rattle.leb128.specs.declared.Group.TheVariants.{More, Last, Bad}
+use Rattle.leb128.specs.declared.Group.TheVariants.{More, Last}
 use Rattle.octets.proofs.Order.{below_or}
-use Rattle.leb128.proofs.Steps.{held_more, last_zero, last_nought, last_over, last_right, more_right, more_many}
+use Rattle.leb128.proofs.Steps.{held_more, last_zero, last_over, last_right, more_right, more_many}
 use Rattle.leb128.proofs.Steps.{step_full, step_last, step_more}
 use Rattle.leb128.proofs.Groups.{groups_one, groups_more}
 
@@ -23,18 +24,18 @@ regroup v a b w = rw (add-mul a (b * 128) w, mul_right_comm b 128 w, mul_assoc b
 module _ (most bound : ℕ) (top : most ≤ 9) where
   -- ---- one octet
 
-  abbrev after : (k : ℕ) (xs : List ℕ) → Group → Head
-  after k xs (More w) = head_from most bound w (k + 1) xs
-  after k xs (Last n) = number n xs
-  after k xs Bad = none
+  abbrev after : (k : ℕ) (xs : List ℕ) → Option Group → Head
+  after k xs (Some (More w)) = head_from most bound w (k + 1) xs
+  after k xs (Some (Last n)) = number n xs
+  after k xs None = none
 
   head_after : (v k x : ℕ) (xs : List ℕ) → head_from most bound v k (x ∷ xs) ≡ after k xs (step_of most bound v k x)
   head_after v k x xs = go (step_of most bound v k x)
     where
-      go : (g : Group) → elim g [ More w ↦ head_from most bound w (k + 1) xs | Last n ↦ number n xs | Bad ↦ none ] ≡ after k xs g
-      go (More w) = refl
-      go (Last n) = refl
-      go Bad = refl
+      go : (g : Option Group) → elim g [ Some (More w) ↦ head_from most bound w (k + 1) xs | Some (Last n) ↦ number n xs | None ↦ none ] ≡ after k xs g
+      go (Some (More w)) = refl
+      go (Some (Last n)) = refl
+      go None = refl
 
   -- no group may follow
   head_full : (v k x : ℕ) (xs : List ℕ) → most ≤ k → head_from most bound v k (x ∷ xs) ≡ none
@@ -50,25 +51,7 @@ module _ (most bound : ℕ) (top : most ≤ 9) where
 
     -- a last group that is in the shortest form and within the bound
     head_number : x < 128 → (1 ≤ k → 1 ≤ x) → v + x * 128 ^ k ≤ bound → head_from most bound v k (x ∷ xs) ≡ number (v + x * 128 ^ k) xs
-    head_number h nz small = go (below_or 0 x)
-      where
-        go : (0 < x) ⊎ (x ≤ 0) → head_from most bound v k (x ∷ xs) ≡ number (v + x * 128 ^ k) xs
-        go (inl z) = head_last h ∙ ap (after k xs) (sym (last_right bound v k x (λ e. omega arith) refl small))
-        go (inr z) =
-            let ex : x ≡ 0 = omega arith in
-            let ek : k ≡ 0 = none_of nz z in
-            let ev : v ≡ 0 = nought ek p.held in
-            head_last h ∙ ap (after k xs) (sym (last_nought bound v k x ex ek p.held)) ∙ rw (ev, ex, zero-mul (128 ^ k)) refl
-          where
-            none_of : (1 ≤ k → 1 ≤ x) → x ≤ 0 → k ≡ 0
-            none_of f l = kz (below_or 0 k)
-              where
-                kz : (0 < k) ⊎ (k ≤ 0) → k ≡ 0
-                kz (inl q) = absurd (omega (arith, f q))
-                kz (inr q) = omega arith
-
-            nought : k ≡ 0 → v < 128 ^ k → v ≡ 0
-            nought e l = let m : v < 1 = rw e at l in omega arith
+    head_number h nz small = head_last h ∙ ap (after k xs) (sym (last_right bound v k x nz refl small))
 
     head_next : 128 ≤ x → k + 1 < most → head_from most bound v k (x ∷ xs) ≡ head_from most bound (v + (x - 128) * 128 ^ k) (k + 1) xs
     head_next h l = head_more h ∙ ap (after k xs) (sym (more_right most v k x l refl))
@@ -153,16 +136,17 @@ module _ (most bound : ℕ) (top : most ≤ 9) where
 
       go : ((w : ℕ) → w < 128 ^ (k + 1) → j + (k + 1) ≡ most → head_from most bound w (k + 1) xs ≡ number n rest → Found j w (k + 1) xs n rest)
           → (x < 128) ⊎ (128 ≤ x) → Found (suc j) v k (x ∷ xs) n rest
-      go ih (inl h) = final (below_or 0 x) (below_or 0 k) (below_or bound (v + x * 128 ^ k))
+      go ih (inl h) = final (form (below_or 0 x) (below_or 0 k)) (below_or bound (v + x * 128 ^ k))
         where
-          final : (0 < x) ⊎ (x ≤ 0) → (0 < k) ⊎ (k ≤ 0) → (bound < v + x * 128 ^ k) ⊎ (v + x * 128 ^ k ≤ bound) → Found (suc j) v k (x ∷ xs) n rest
-          final (inl z) y (inl b) = absurd (never (ap (after k xs) (last_over bound v k x (λ d. omega arith) refl b) ∙ sym (head_last v k x xs part few h) ∙ q))
-          final (inl z) y (inr b) = last h (λ d. z) b
-          final (inr z) (inl y) b = absurd (never (ap (after k xs) (last_zero bound v k x (omega arith) y) ∙ sym (head_last v k x xs part few h) ∙ q))
-          final (inr z) (inr y) b = last h (λ d. absurd (omega arith)) (nothing (omega arith) (omega arith) hv)
-            where
-              nothing : x ≡ 0 → k ≡ 0 → v < 128 ^ k → v + x * 128 ^ k ≤ bound
-              nothing ex ek l = let m : v < 1 = rw ek at l in rw (ex, zero-mul (128 ^ k)) (omega arith)
+          form : (0 < x) ⊎ (x ≤ 0) → (0 < k) ⊎ (k ≤ 0) → ((x ≡ 0) × (0 < k)) ⊎ (1 ≤ k → 1 ≤ x)
+          form (inr z) (inl y) = inl (omega arith, y)
+          form (inl z) y = inr (λ d. z)
+          form (inr z) (inr y) = inr (λ d. absurd (omega arith))
+
+          final : ((x ≡ 0) × (0 < k)) ⊎ (1 ≤ k → 1 ≤ x) → (bound < v + x * 128 ^ k) ⊎ (v + x * 128 ^ k ≤ bound) → Found (suc j) v k (x ∷ xs) n rest
+          final (inl z) b = absurd (never (ap (after k xs) (last_zero bound v k x z.0 z.1) ∙ sym (head_last v k x xs part few h) ∙ q))
+          final (inr nz) (inl b) = absurd (never (ap (after k xs) (last_over bound v k x nz refl b) ∙ sym (head_last v k x xs part few h) ∙ q))
+          final (inr nz) (inr b) = last h nz b
       go ih (inr h) = further (below_or (k + 1) most)
         where
           onward : k + 1 < most → Found j (v + (x - 128) * 128 ^ k) (k + 1) xs n rest → Found (suc j) v k (x ∷ xs) n rest

@@ -5,11 +5,12 @@ use Prim.Native.Nat.{ℕ, suc, ◌+◌, ◌-◌, ◌≤◌, ◌<◌}
 use native.Mathlib.Omega.{arith}
 use lib.ListN.{length, drop, length-append, length-drop}
 use lib.Seq.{drop_at, drop-drop}
-use Rattle.leb128.specs.Number.{step_of, Head, number, short, none, head_from, head_of, found_of, found_at, part_of, part_at}
+use Rattle.leb128.specs.Number.{step_of, Head, number, short, none, head_from, head_of, found_of, found_at}
+use Rattle.std.specs.Prelude.{Option, Some, None, Ok, Err}
 use Rattle.leb128.specs.declared.Group.{Group}
-use Rattle.leb128.specs.declared.Group.TheVariants.{More, Last, Bad}
-use Rattle.leb128.specs.declared.Found.TheVariants as found
-use Rattle.leb128.specs.declared.Part.TheVariants as part
+use Rattle.leb128.specs.declared.Group.TheVariants.{More, Last}
+use Rattle.leb128.specs.declared.Found.{Found}
+use Rattle.leb128.specs.declared.NumberError.TheVariants.{Short, Bad}
 
 module _ (most bound : ℕ) where
   -- what the octets of a first part gave, with ys behind them
@@ -19,18 +20,18 @@ module _ (most bound : ℕ) where
   go_on none ys = none
 
   -- octet by octet, by what a step gives
-  abbrev pub after : ℕ → List ℕ → Group → Head
-  after k xs (More w) = head_from most bound w (k + 1) xs
-  after k xs (Last n) = number n xs
-  after k xs Bad = none
+  abbrev pub after : ℕ → List ℕ → Option Group → Head
+  after k xs (Some (More w)) = head_from most bound w (k + 1) xs
+  after k xs (Some (Last n)) = number n xs
+  after k xs None = none
 
   pub head_after : (v k x : ℕ) (xs : List ℕ) → head_from most bound v k (x ∷ xs) ≡ after k xs (step_of most bound v k x)
   head_after v k x xs = go (step_of most bound v k x)
     where
-      go : (g : Group) → elim g [ More w ↦ head_from most bound w (k + 1) xs | Last n ↦ number n xs | Bad ↦ none ] ≡ after k xs g
-      go (More w) = refl
-      go (Last n) = refl
-      go Bad = refl
+      go : (g : Option Group) → elim g [ Some (More w) ↦ head_from most bound w (k + 1) xs | Some (Last n) ↦ number n xs | None ↦ none ] ≡ after k xs g
+      go (Some (More w)) = refl
+      go (Some (Last n)) = refl
+      go None = refl
 
   pub head_join : (xs : List ℕ) (v k : ℕ) (ys : List ℕ) → head_from most bound v k (xs ++ ys) ≡ go_on (head_from most bound v k xs) ys
   head_join [] v k ys = refl
@@ -38,20 +39,20 @@ module _ (most bound : ℕ) where
       head_after v k x (xs ++ ys) ∙ go (λ w. head_join xs w (k + 1) ys) (step_of most bound v k x) ∙ ap (λ (h : Head). go_on h ys) (sym (head_after v k x xs))
     where
       go : ((w : ℕ) → head_from most bound w (k + 1) (xs ++ ys) ≡ go_on (head_from most bound w (k + 1) xs) ys)
-          → (g : Group) → after k (xs ++ ys) g ≡ go_on (after k xs g) ys
-      go ih (More w) = ih w
-      go ih (Last n) = refl
-      go ih Bad = refl
+          → (g : Option Group) → after k (xs ++ ys) g ≡ go_on (after k xs g) ys
+      go ih (Some (More w)) = ih w
+      go ih (Some (Last n)) = refl
+      go ih None = refl
 
   -- each of too few octets is a group
   pub head_groups : (xs : List ℕ) (v k w j : ℕ) → head_from most bound v k xs ≡ short w j → j ≡ k + length xs
   head_groups [] v k w j e = let d : k ≡ j = cc in omega arith
   head_groups (x ∷ xs) v k w j e = go (λ u. head_groups xs u (k + 1) w j) (step_of most bound v k x) (sym (head_after v k x xs) ∙ e)
     where
-      go : ((u : ℕ) → head_from most bound u (k + 1) xs ≡ short w j → j ≡ k + 1 + length xs) → (g : Group) → after k xs g ≡ short w j → j ≡ k + suc (length xs)
-      go ih (More u) q = omega (arith, ih u q)
-      go ih (Last n) q = absurd (let z : ◌≡◌ {A = ℕ} 0 1 = cc in omega arith)
-      go ih Bad q = absurd (let z : ◌≡◌ {A = ℕ} 0 1 = cc in omega arith)
+      go : ((u : ℕ) → head_from most bound u (k + 1) xs ≡ short w j → j ≡ k + 1 + length xs) → (g : Option Group) → after k xs g ≡ short w j → j ≡ k + suc (length xs)
+      go ih (Some (More u)) q = omega (arith, ih u q)
+      go ih (Some (Last n)) q = absurd (let z : ◌≡◌ {A = ℕ} 0 1 = cc in omega arith)
+      go ih None q = absurd (let z : ◌≡◌ {A = ℕ} 0 1 = cc in omega arith)
 
   -- what stands behind a number is the end of the octets
   pub record Behind (xs rest : List ℕ) : Type 0 where
@@ -64,68 +65,34 @@ module _ (most bound : ℕ) where
   head_behind (x ∷ xs) v k n rest e = go (λ w. head_behind xs w (k + 1) n rest) (step_of most bound v k x) (sym (head_after v k x xs) ∙ e)
     where
       go : ((w : ℕ) → head_from most bound w (k + 1) xs ≡ number n rest → Behind xs rest)
-          → (g : Group) → after k xs g ≡ number n rest → Behind (x ∷ xs) rest
-      go ih (More w) q = let b = ih w q in record { front = x ∷ b.front; text = ap (λ (l : List ℕ). x ∷ l) b.text; some = omega arith }
-      go ih (Last m) q = let d : xs ≡ rest = cc in record { front = x ∷ []; text = ap (λ (l : List ℕ). x ∷ l) d; some = omega arith }
-      go ih Bad q = absurd (let z : ◌≡◌ {A = ℕ} 0 1 = cc in omega arith)
+          → (g : Option Group) → after k xs g ≡ number n rest → Behind (x ∷ xs) rest
+      go ih (Some (More w)) q = let b = ih w q in record { front = x ∷ b.front; text = ap (λ (l : List ℕ). x ∷ l) b.text; some = omega arith }
+      go ih (Some (Last m)) q = let d : xs ≡ rest = cc in record { front = x ∷ []; text = ap (λ (l : List ℕ). x ∷ l) d; some = omega arith }
+      go ih None q = absurd (let z : ◌≡◌ {A = ℕ} 0 1 = cc in omega arith)
 
   -- ---- at an index
 
-  module _ (v k : ℕ) (xs : List ℕ) (i : ℕ) where
+  module _ (xs : List ℕ) (i : ℕ) where
     -- what is found there, as a head: the octets behind a number are those from its end on
     pub record FoundNumber (n s : ℕ) : Type 0 where
-      pub head : head_from most bound v k (drop i xs) ≡ number n (drop s xs)
+      pub head : head_of most bound (drop i xs) ≡ number n (drop s xs)
       pub later : i < s
       pub within : s ≤ length xs
 
-    number_found : (n s m : ℕ) (rest : List ℕ) → head_from most bound v k (drop i xs) ≡ number m rest → m ≡ n → s ≡ length xs - length rest → FoundNumber n s
-    number_found n s m rest q em es =
-        let b = head_behind (drop i xs) v k m rest q in
-        let l : length xs - i ≡ length b.front + length rest = sym (length-drop i xs) ∙ ap length b.text ∙ length-append b.front rest in
-        let f = b.some in
-        let at : i + length b.front ≡ s = omega arith in
-        let er : drop s xs ≡ rest = ap (λ (j : ℕ). drop j xs) (sym at) ∙ sym (drop-drop (length b.front) i xs) ∙ ap (drop (length b.front)) b.text ∙ drop_at b.front rest (length b.front) refl in
-        record { head = q ∙ ap (λ (j : ℕ). number j rest) em ∙ ap (number n) (sym er); later = omega arith; within = omega arith }
-
-    pub part_number : (n s : ℕ) → part_at most bound v k xs i ≡ part.Number n s → FoundNumber n s
-    part_number n s e = go (head_from most bound v k (drop i xs)) refl e
-      where
-        go : (h : Head) → head_from most bound v k (drop i xs) ≡ h → part_of (length xs) h ≡ part.Number n s → FoundNumber n s
-        go (number m rest) q d =
-            let em : m ≡ n = cc in
-            let es : s ≡ length xs - length rest = cc in
-            number_found n s m rest q em es
-        go (short w j) q d = absurd (let z : ◌≡◌ {A = ℕ} 0 1 = cc in omega arith)
-        go none q d = absurd (let z : ◌≡◌ {A = ℕ} 0 1 = cc in omega arith)
-
-    pub part_more : (w j : ℕ) → part_at most bound v k xs i ≡ part.More w j → head_from most bound v k (drop i xs) ≡ short w j
-    part_more w j e = go (head_from most bound v k (drop i xs)) refl e
-      where
-        go : (h : Head) → head_from most bound v k (drop i xs) ≡ h → part_of (length xs) h ≡ part.More w j → head_from most bound v k (drop i xs) ≡ short w j
-        go (number m rest) q d = absurd (let z : ◌≡◌ {A = ℕ} 0 1 = cc in omega arith)
-        go (short w' j') q d =
-            let ew : w' ≡ w = cc in
-            let ej : j' ≡ j = cc in
-            q ∙ rw (ew, ej) refl
-        go none q d = absurd (let z : ◌≡◌ {A = ℕ} 0 1 = cc in omega arith)
-
-    pub part_bad : part_at most bound v k xs i ≡ part.Bad → head_from most bound v k (drop i xs) ≡ none
-    part_bad e = go (head_from most bound v k (drop i xs)) refl e
-      where
-        go : (h : Head) → head_from most bound v k (drop i xs) ≡ h → part_of (length xs) h ≡ part.Bad → head_from most bound v k (drop i xs) ≡ none
-        go (number m rest) q d = absurd (let z : ◌≡◌ {A = ℕ} 0 1 = cc in omega arith)
-        go (short w j) q d = absurd (let z : ◌≡◌ {A = ℕ} 0 1 = cc in omega arith)
-        go none q d = q
-
-  module _ (xs : List ℕ) (i : ℕ) where
-    pub found_number : (n s : ℕ) → found_at most bound xs i ≡ found.Number n s → FoundNumber 0 0 xs i n s
+    pub found_number : (n s : ℕ) → found_at most bound xs i ≡ Ok (record { number = n; next = s }) → FoundNumber n s
     found_number n s e = go (head_of most bound (drop i xs)) refl e
       where
-        go : (h : Head) → head_of most bound (drop i xs) ≡ h → found_of (length xs) h ≡ found.Number n s → FoundNumber 0 0 xs i n s
+        go : (h : Head) → head_of most bound (drop i xs) ≡ h → found_of (length xs) h ≡ Ok (record { number = n; next = s }) → FoundNumber n s
         go (number m rest) q d =
-            let em : m ≡ n = cc in
-            let es : s ≡ length xs - length rest = cc in
-            number_found 0 0 xs i n s m rest q em es
+            let f : ◌≡◌ {A = Found} (record { number = m; next = length xs - length rest }) (record { number = n; next = s }) = cc in
+            let em : m ≡ n = ap (λ (r : Found). r.number) f in
+            let es : s ≡ length xs - length rest = ap (λ (r : Found). r.next) (sym f) in
+            let b = head_behind (drop i xs) 0 0 m rest q in
+            let l : length xs - i ≡ length b.front + length rest = sym (length-drop i xs) ∙ ap length b.text ∙ length-append b.front rest in
+            let f = b.some in
+            let at : i + length b.front ≡ s = omega arith in
+            let er : drop s xs ≡ rest = ap (λ (j : ℕ). drop j xs) (sym at) ∙ sym (drop-drop (length b.front) i xs) ∙ ap (drop (length b.front)) b.text ∙ drop_at b.front rest (length b.front) refl in
+            record { head = q ∙ ap (λ (j : ℕ). number j rest) em ∙ ap (number n) (sym er); later = omega arith; within = omega arith }
         go (short v k) q d = absurd (let z : ◌≡◌ {A = ℕ} 0 1 = cc in omega arith)
         go none q d = absurd (let z : ◌≡◌ {A = ℕ} 0 1 = cc in omega arith)
 
@@ -134,18 +101,18 @@ module _ (most bound : ℕ) where
       pub groups : ℕ
       pub head : head_of most bound (drop i xs) ≡ short value groups
 
-    pub found_short : found_at most bound xs i ≡ found.Short → FoundShort
+    pub found_short : found_at most bound xs i ≡ Err Short → FoundShort
     found_short e = go (head_of most bound (drop i xs)) refl e
       where
-        go : (h : Head) → head_of most bound (drop i xs) ≡ h → found_of (length xs) h ≡ found.Short → FoundShort
+        go : (h : Head) → head_of most bound (drop i xs) ≡ h → found_of (length xs) h ≡ Err Short → FoundShort
         go (number m rest) q d = absurd (let z : ◌≡◌ {A = ℕ} 0 1 = cc in omega arith)
         go (short v k) q d = record { value = v; groups = k; head = q }
         go none q d = absurd (let z : ◌≡◌ {A = ℕ} 0 1 = cc in omega arith)
 
-    pub found_bad : found_at most bound xs i ≡ found.Bad → head_of most bound (drop i xs) ≡ none
+    pub found_bad : found_at most bound xs i ≡ Err Bad → head_of most bound (drop i xs) ≡ none
     found_bad e = go (head_of most bound (drop i xs)) refl e
       where
-        go : (h : Head) → head_of most bound (drop i xs) ≡ h → found_of (length xs) h ≡ found.Bad → head_of most bound (drop i xs) ≡ none
+        go : (h : Head) → head_of most bound (drop i xs) ≡ h → found_of (length xs) h ≡ Err Bad → head_of most bound (drop i xs) ≡ none
         go (number m rest) q d = absurd (let z : ◌≡◌ {A = ℕ} 0 1 = cc in omega arith)
         go (short v k) q d = absurd (let z : ◌≡◌ {A = ℕ} 0 1 = cc in omega arith)
         go none q d = q

@@ -10,8 +10,9 @@ use native.Mathlib.Omega.{arith}
 use lib.ListN.{length, get_or, length-append}
 use Rattle.leb128.specs.Number.{groups_of, Within, Partial, step_of, Head, number, short, none, head_from, head_of}
 use Rattle.leb128.specs.Possible.{Possible, Begun}
+use Rattle.std.specs.Prelude.{Option, Some, None}
 use Rattle.leb128.specs.declared.Group.{Group}
-use Rattle.leb128.specs.declared.Group.TheVariants.{More, Last, Bad}
+use Rattle.leb128.specs.declared.Group.TheVariants.{More, Last}
 use Rattle.octets.proofs.Order.{below_or}
 use Rattle.leb128.proofs.Steps.{held_more, more_right, more_many, step_more, last_not_more}
 use Rattle.leb128.proofs.Exact.{sound, complete, regroup}
@@ -65,10 +66,10 @@ module _ (most bound : ℕ) (roomy : Roomy most bound) where
           → (x < 128) ⊎ (128 ≤ x) → (k + 1 < most) ⊎ (most ≤ k + 1) → Goes (suc j) v k (x ∷ xs)
       go ih (inl h) t = absurd (last (step_of most bound v k x) refl by)
         where
-          last : (g : Group) → step_of most bound v k x ≡ g → after most bound k xs g ≡ short w l → ⊥
-          last (More u) eg d = last_not_more most bound v k x u part (omega arith) h eg
-          last (Last n) eg d = never d
-          last Bad eg d = nothing d
+          last : (g : Option Group) → step_of most bound v k x ≡ g → after most bound k xs g ≡ short w l → ⊥
+          last (Some (More u)) eg d = last_not_more most bound v k x u part (omega arith) h eg
+          last (Some (Last n)) eg d = never d
+          last None eg d = nothing d
       go ih (inr h) (inr t) = absurd (nothing (ap (after most bound k xs) (more_many most v k x t ∙ step_more most bound v k x part (omega arith) h) ∙ by))
       go ih (inr h) (inl t) =
           let hx : x < 256 = o 0 in

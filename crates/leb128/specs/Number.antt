@@ -1,11 +1,10 @@
 -- Numbers in groups of seven bits (document 01, "The listing"): a number's octets said forwards, and one step of reading them.
-use Rattle.std.specs.Prelude.{◌≡◌, cond, ◌&&◌, List, [], ◌∷◌, ℕ, zero, suc, ◌+◌, ◌-◌, ◌*◌, ◌/◌, ◌%◌, ◌^◌, ◌≤◌, ◌<◌, ltb, eqb, length, drop}
+use Rattle.std.specs.Prelude.{◌≡◌, cond, ◌&&◌, List, [], ◌∷◌, ℕ, zero, suc, ◌+◌, ◌-◌, ◌*◌, ◌/◌, ◌%◌, ◌^◌, ◌≤◌, ◌<◌, ltb, eqb, length, drop, Option, Some, None, Result, Ok, Err}
 use Rattle.leb128.specs.declared.Group.{Group}
-use Rattle.leb128.specs.declared.Group.TheVariants.{More, Last, Bad}
+use Rattle.leb128.specs.declared.Group.TheVariants.{More, Last}
+use Rattle.leb128.specs.declared.NumberError.{NumberError}
+use Rattle.leb128.specs.declared.NumberError.TheVariants.{Short, Bad}
 use Rattle.leb128.specs.declared.Found.{Found}
-use Rattle.leb128.specs.declared.Found.TheVariants as found
-use Rattle.leb128.specs.declared.Part.{Part}
-use Rattle.leb128.specs.declared.Part.TheVariants as part
 
 -- "in groups of seven bits, low group first, 128 meaning 'more', shortest form": the octets of n, for which k groups are enough
 abbrev pub groups_of : ℕ → ℕ → List ℕ
@@ -25,17 +24,17 @@ pub record Partial (v k : ℕ) : Type 0 where
   pub held : v < 128 ^ k
 
 -- the octet x is the last group: shortest form, so no 0 behind another group
-unfoldable pub last_group : ℕ → ℕ → ℕ → ℕ → Group
-last_group bound v k x = cond (eqb x 0 && ltb 0 k) Bad (cond (ltb bound (v + x * 128 ^ k)) Bad (Last (v + x * 128 ^ k)))
+unfoldable pub last_group : ℕ → ℕ → ℕ → ℕ → Option Group
+last_group bound v k x = cond (eqb x 0 && ltb 0 k) None (cond (ltb bound (v + x * 128 ^ k)) None (Some (Last (v + x * 128 ^ k))))
 
 -- the octet x is a group that another one follows
-unfoldable pub more_groups : ℕ → ℕ → ℕ → ℕ → Group
-more_groups most v k x = cond (ltb (k + 1) most) (More (v + (x - 128) * 128 ^ k)) Bad
+unfoldable pub more_groups : ℕ → ℕ → ℕ → ℕ → Option Group
+more_groups most v k x = cond (ltb (k + 1) most) (Some (More (v + (x - 128) * 128 ^ k))) None
 
--- the octet x behind k groups of the value v; Bad also where no more groups may stand there, or no k groups come to v
-unfoldable pub step_of : ℕ → ℕ → ℕ → ℕ → ℕ → Group
+-- the octet x behind k groups of the value v; None also where no more groups may stand there, or no k groups come to v
+unfoldable pub step_of : ℕ → ℕ → ℕ → ℕ → ℕ → Option Group
 step_of most bound v k x =
-    cond (ltb k 9 && (ltb k most && ltb v (128 ^ k))) (cond (ltb x 128) (last_group bound v k x) (more_groups most v k x)) Bad
+    cond (ltb k 9 && (ltb k most && ltb v (128 ^ k))) (cond (ltb x 128) (last_group bound v k x) (more_groups most v k x)) None
 
 -- what stands at the start of some octets: a number, with the octets behind it; not enough octets, with the groups so far;
 -- no number
@@ -47,31 +46,21 @@ pub data Head : Type 0 where
 -- octet by octet, from k groups of the value v on
 abbrev pub head_from : ℕ → ℕ → ℕ → ℕ → List ℕ → Head
 head_from most bound v k [] = short v k
-head_from most bound v k (x ∷ xs) = elim (step_of most bound v k x) [ More w ↦ head_from most bound w (k + 1) xs | Last n ↦ number n xs | Bad ↦ none ]
+head_from most bound v k (x ∷ xs) = elim (step_of most bound v k x) [ Some (More w) ↦ head_from most bound w (k + 1) xs | Some (Last n) ↦ number n xs | None ↦ none ]
 
 -- from the start
 abbrev pub head_of : ℕ → ℕ → List ℕ → Head
 head_of most bound xs = head_from most bound 0 0 xs
 
 -- a head, as it is answered of octets of which it is the end: a number with the index behind it, where all have the length n
-abbrev pub found_of : ℕ → Head → Found
-found_of n (number m rest) = found.Number m (n - length rest)
-found_of n (short v k) = found.Short
-found_of n none = found.Bad
+abbrev pub found_of : ℕ → Head → Result Found NumberError
+found_of n (number m rest) = Ok (record { number = m; next = n - length rest })
+found_of n (short v k) = Err Short
+found_of n none = Err Bad
 
 -- what stands at the index i of the octets xs
-abbrev pub found_at : ℕ → ℕ → List ℕ → ℕ → Found
+abbrev pub found_at : ℕ → ℕ → List ℕ → ℕ → Result Found NumberError
 found_at most bound xs i = found_of (length xs) (head_of most bound (drop i xs))
-
--- the same with the groups so far, where more octets may follow
-abbrev pub part_of : ℕ → Head → Part
-part_of n (number m rest) = part.Number m (n - length rest)
-part_of n (short v k) = part.More v k
-part_of n none = part.Bad
-
--- what the octets xs from the index i on make of k groups of the value v
-abbrev pub part_at : ℕ → ℕ → ℕ → ℕ → List ℕ → ℕ → Part
-part_at most bound v k xs i = part_of (length xs) (head_from most bound v k (drop i xs))
 
 -- ---- what is promised
 
@@ -83,23 +72,22 @@ pub record Values : Type 0 where
   pub next : ℕ
 
 -- those of each case of a step's answer
-abbrev pub group_values : Group → Values
-group_values (More v) = record { whole = 0; value = v; next = 0 }
-group_values (Last n) = record { whole = 1; value = n; next = 0 }
-group_values Bad = record { whole = 0; value = 0; next = 0 }
+abbrev pub group_values : Option Group → Values
+group_values (Some (More v)) = record { whole = 0; value = v; next = 0 }
+group_values (Some (Last n)) = record { whole = 1; value = n; next = 0 }
+group_values None = record { whole = 0; value = 0; next = 0 }
 
 -- those of each case of what stands at an index
-abbrev pub found_values : Found → Values
-found_values (found.Number n i) = record { whole = 1; value = n; next = i }
-found_values found.Short = record { whole = 0; value = 0; next = 0 }
-found_values found.Bad = record { whole = 0; value = 0; next = 0 }
+abbrev pub found_values : Result Found NumberError → Values
+found_values (Ok f) = record { whole = 1; value = f.number; next = f.next }
+found_values (Err e) = record { whole = 0; value = 0; next = 0 }
 
 -- what `step` promises of the octet x behind k groups of the value v
-pub record Steps (most bound v k x : ℕ) (r : Group) : Type 0 where
+pub record Steps (most bound v k x : ℕ) (r : Option Group) : Type 0 where
   pub answer : r ≡ step_of most bound v k x
   pub values : group_values r ≡ group_values (step_of most bound v k x)
 
 -- what `number_at` promises of the index i of the octets xs
-pub record Finds (most bound : ℕ) (xs : List ℕ) (i : ℕ) (r : Found) : Type 0 where
+pub record Finds (most bound : ℕ) (xs : List ℕ) (i : ℕ) (r : Result Found NumberError) : Type 0 where
   pub answer : r ≡ found_at most bound xs i
   pub values : found_values r ≡ found_values (found_at most bound xs i)

@@ -6,12 +6,13 @@ use mathlib.Core.List.{List, [], ◌∷◌, ◌++◌, append_assoc}
 use Prim.Native.Nat.{ℕ, zero, suc, ◌+◌, ◌/◌, ◌%◌, ◌≤◌, ◌<◌}
 use native.Mathlib.Omega.{arith}
 use lib.ListN.{length}
+use Rattle.refusal.specs.Numbers.{number_of}
+use Rattle.refusal.specs.declared.Reason.{Reason}
+use Rattle.refusal.proofs.NumberLaws.{number_of-most, number_of-injective}
 use Rattle.wire.specs.Frame.{Frame}
 use Rattle.clock.specs.Time.{ticks_of}
 use Rattle.wire.specs.Walk.{Walk, at, refused, read_of}
 use Rattle.wire.specs.declared.Framing.TheVariants.{Unframed}
-use Rattle.wire.proofs.Ranges.{in_range}
-use Rattle.octets.specs.Octet.{Octets}
 use Rattle.octets.proofs.Order.{below_or}
 use Rattle.listing.specs.Line.{digits, decimal, ok_word, refused_word, numbered, line_with, line_of, payload_line}
 use Rattle.listing.proofs.Digits.{digits_one, digits_more, value_from, decimal_value}
@@ -73,15 +74,15 @@ lines_differ n m a b x y q =
     omega arith
 
 -- the line of a payload that is refused is that of no accepted one, whatever the numbers of the two
-pub refused_line : (p q : List ℕ) (n m k place u : ℕ) (behind fs : List Frame) → read_of Unframed p ≡ refused k place behind → read_of Unframed q ≡ at u fs
+pub refused_line : (p q : List ℕ) (n m : ℕ) (reason : Reason) (place u : ℕ) (behind fs : List Frame) → read_of Unframed p ≡ refused reason place behind → read_of Unframed q ≡ at u fs
     → payload_line n p ≡ payload_line m q → ⊥
-refused_line p q n m k place u behind fs ep eq e =
-    lines_differ n m k place (length fs) (ticks_of fs) (sym (ap (line_of n) ep) ∙ e ∙ ap (line_of m) eq)
+refused_line p q n m reason place u behind fs ep eq e =
+    lines_differ n m (number_of reason) place (length fs) (ticks_of fs) (sym (ap (line_of n) ep) ∙ e ∙ ap (line_of m) eq)
 
 -- an empty payload among them
-pub refused_not_empty : (p : List ℕ) (n m k place : ℕ) (behind : List Frame) → read_of Unframed p ≡ refused k place behind → payload_line n p ≡ payload_line m [] → ⊥
+pub refused_not_empty : (p : List ℕ) (n m : ℕ) (reason : Reason) (place : ℕ) (behind : List Frame) → read_of Unframed p ≡ refused reason place behind → payload_line n p ≡ payload_line m [] → ⊥
 unfolding read_of
-refused_not_empty p n m k place behind ep e = refused_line p [] n m k place 0 behind [] ep refl e
+refused_not_empty p n m reason place behind ep e = refused_line p [] n m reason place 0 behind [] ep refl e
 
 -- two lines with the same word: the same number behind it
 same_number : (w : List ℕ) (n m a b x y : ℕ) → a < 18446744073709551616 → x < 18446744073709551616 → line_with n (32 ∷ w) a b ≡ line_with m (32 ∷ w) x y → a ≡ x
@@ -98,14 +99,14 @@ frames_not_empty p n m fs ep h l e =
     let z : length fs ≡ 0 = same_number (111 ∷ 107 ∷ 32 ∷ []) n m (length fs) (ticks_of fs) 0 0 (omega arith) (omega arith) (sym (ap (line_of n) ep) ∙ e) in
     omega arith
 
--- a payload whose line is that of a refusal is refused by its number
-pub line_refusal : (p : List ℕ) (n m k place : ℕ) → Octets p → k < 18446744073709551616 → payload_line n p ≡ line_with m refused_word k place
-    → (q : ℕ) × (behind : List Frame) × (read_of Unframed p ≡ refused k q behind)
-line_refusal p n m k place o h e = go (read_of Unframed p) refl e
+-- a payload whose line is that of a refusal is refused for its reason
+pub line_refusal : (p : List ℕ) (n m : ℕ) (reason : Reason) (place : ℕ) → payload_line n p ≡ line_with m refused_word (number_of reason) place
+    → (q : ℕ) × (behind : List Frame) × (read_of Unframed p ≡ refused reason q behind)
+line_refusal p n m reason place e = go (read_of Unframed p) refl e
   where
-    go : (w : Walk) → read_of Unframed p ≡ w → line_of n w ≡ line_with m refused_word k place → (q : ℕ) × (behind : List Frame) × (read_of Unframed p ≡ refused k q behind)
-    go (at u fs) q d = absurd (lines_differ m n k place (length fs) (ticks_of fs) (sym d))
-    go (refused j i behind) q d =
-        let r = in_range Unframed p j i behind o q in
-        let z : j ≡ k = same_number (114 ∷ 101 ∷ 102 ∷ 117 ∷ 115 ∷ 101 ∷ 100 ∷ 32 ∷ []) n m j i k place (omega (arith, r.0)) h d in
-        (i, behind, q ∙ ap (λ (x : ℕ). refused x i behind) z)
+    go : (w : Walk) → read_of Unframed p ≡ w → line_of n w ≡ line_with m refused_word (number_of reason) place
+        → (q : ℕ) × (behind : List Frame) × (read_of Unframed p ≡ refused reason q behind)
+    go (at u fs) q d = absurd (lines_differ m n (number_of reason) place (length fs) (ticks_of fs) (sym d))
+    go (refused r i behind) q d =
+        let z : number_of r ≡ number_of reason = same_number (114 ∷ 101 ∷ 102 ∷ 117 ∷ 115 ∷ 101 ∷ 100 ∷ 32 ∷ []) n m (number_of r) i (number_of reason) place (omega (arith, number_of-most r)) (omega (arith, number_of-most reason)) d in
+        (i, behind, q ∙ ap (λ (x : Reason). refused x i behind) (number_of-injective r reason z))

@@ -2,7 +2,7 @@
 use mathlib.Core.Path.{◌≡◌, refl, sym, ap, ◌∙◌, subst}
 use mathlib.Core.Logic.{◌⊎◌, inl, inr}
 use mathlib.Core.List.{List, [], ◌∷◌, ◌++◌, append_assoc, append-nil}
-use mathlib.Core.Option.{none}
+use Rattle.std.specs.Prelude.{Option, Some, None}
 use Prim.Native.Nat.{ℕ, zero, suc, ◌+◌, ◌-◌, ◌≤◌, ◌<◌}
 use native.Mathlib.Omega.{arith}
 use lib.ListN.{length, take, drop, replicate, length-append, take-append-drop, length-replicate}
@@ -16,7 +16,7 @@ use Rattle.octets.proofs.Order.{below_or}
 use Rattle.leb128.specs.Number.{groups_of, Within, step_of, Head, number, short, head_from, head_of}
 use Rattle.leb128.specs.Number.{none as bad}
 use Rattle.leb128.specs.declared.Group.{Group}
-use Rattle.leb128.specs.declared.Group.TheVariants.{More, Last, Bad}
+use Rattle.leb128.specs.declared.Group.TheVariants.{More, Last}
 use Rattle.leb128.proofs.Exact.{complete, sound}
 use Rattle.listing.specs.Line.{payload_line, end_line, cut_line}
 use Rattle.listing.specs.Listing.{following, entry, Lists, ends, lists, cuts, Stage, moved, listed, within, grouped, next_in, run, closed, started, fresh, listing}
@@ -28,39 +28,39 @@ use Rattle.listing.proofs.Stages.{within_more, within-whole, within-moved, run_o
 
 -- the stage behind the head of some octets, where n are taken when all of them are
 head_stage : Stage → ℕ → Head → Stage
-head_stage t n (number m rest) = run none (within t (n - length rest) m 0 t.buffer) rest
+head_stage t n (number m rest) = run None (within t (n - length rest) m 0 t.buffer) rest
 head_stage t n (short v k) = moved t n (Length v k) t.buffer
 head_stage t n bad = moved t n BadLength t.buffer
 
 head_moved : (t : Stage) (i n : ℕ) (f : Phase) (h : Head) → head_stage (moved t i f t.buffer) n h ≡ head_stage t n h
 unfolding head_stage
-head_moved t i n f (number m rest) = ap (λ (u : Stage). run none u rest) (within-moved t i f t.buffer (n - length rest) m 0 t.buffer)
+head_moved t i n f (number m rest) = ap (λ (u : Stage). run None u rest) (within-moved t i f t.buffer (n - length rest) m 0 t.buffer)
 head_moved t i n f (short v k) = refl
 head_moved t i n f bad = refl
 
-run_head : (t : Stage) (v k : ℕ) (xs : List ℕ) → t.phase ≡ Length v k → run none t xs ≡ head_stage t (t.taken + length xs) (head_from 2 1400 v k xs)
+run_head : (t : Stage) (v k : ℕ) (xs : List ℕ) → t.phase ≡ Length v k → run None t xs ≡ head_stage t (t.taken + length xs) (head_from 2 1400 v k xs)
 unfolding head_stage
 run_head t v k [] f =
     let e : t.taken ≡ t.taken + 0 = omega arith in
     ap (λ (g : Phase). moved t t.taken g t.buffer) f ∙ ap (λ (n : ℕ). moved t n (Length v k) t.buffer) e
 run_head t v k (x ∷ xs) f =
-    ap (λ (g : Phase). run none (next_in g t x) xs) f
+    ap (λ (g : Phase). run None (next_in g t x) xs) f
     ∙ go (λ u w g. run_head u w (k + 1) xs g) (step_of 2 1400 v k x)
   where
-    go : ((u : Stage) (w : ℕ) → u.phase ≡ Length w (k + 1) → run none u xs ≡ head_stage u (u.taken + length xs) (head_from 2 1400 w (k + 1) xs)) → (g : Group)
-        → run none (grouped t k g) xs
-        ≡ head_stage t (t.taken + suc (length xs)) (elim g [ More w ↦ head_from 2 1400 w (k + 1) xs | Last m ↦ number m xs | Bad ↦ bad ])
-    go ih (More w) =
+    go : ((u : Stage) (w : ℕ) → u.phase ≡ Length w (k + 1) → run None u xs ≡ head_stage u (u.taken + length xs) (head_from 2 1400 w (k + 1) xs)) → (g : Option Group)
+        → run None (grouped t k g) xs
+        ≡ head_stage t (t.taken + suc (length xs)) (elim g [ Some (More w) ↦ head_from 2 1400 w (k + 1) xs | Some (Last m) ↦ number m xs | None ↦ bad ])
+    go ih (Some (More w)) =
         let e : t.taken + 1 + length xs ≡ t.taken + suc (length xs) = omega arith in
         ih (moved t (t.taken + 1) (Length w (k + 1)) t.buffer) w refl
         ∙ head_moved t (t.taken + 1) (t.taken + 1 + length xs) (Length w (k + 1)) (head_from 2 1400 w (k + 1) xs)
         ∙ ap (λ (n : ℕ). head_stage t n (head_from 2 1400 w (k + 1) xs)) e
-    go ih (Last m) =
+    go ih (Some (Last m)) =
         let e : t.taken + 1 ≡ t.taken + suc (length xs) - length xs = omega arith in
-        ap (λ (n : ℕ). run none (within t n m 0 t.buffer) xs) e
-    go ih Bad =
+        ap (λ (n : ℕ). run None (within t n m 0 t.buffer) xs) e
+    go ih None =
         let e : t.taken + 1 + length xs ≡ t.taken + suc (length xs) = omega arith in
-        run_bad none (moved t (t.taken + 1) BadLength t.buffer) xs refl refl ∙ ap (λ (n : ℕ). moved t n BadLength t.buffer) e
+        run_bad None (moved t (t.taken + 1) BadLength t.buffer) xs refl refl ∙ ap (λ (n : ℕ). moved t n BadLength t.buffer) e
 
 -- ---- a payload behind its length
 
@@ -69,16 +69,16 @@ after : Stage → ℕ → List ℕ → Stage
 after t n p = listed t (n + length p) p (put t.buffer 0 p)
 
 within_payload : (t : Stage) (n : ℕ) (p rest : List ℕ) → length p ≤ 1400 → 1400 ≤ length t.buffer
-    → run none (within t n (length p) 0 t.buffer) (p ++ rest) ≡ run none (after t n p) rest
+    → run None (within t n (length p) 0 t.buffer) (p ++ rest) ≡ run None (after t n p) rest
 unfolding after
 within_payload t n [] rest h o =
-    let e : n ≡ n + 0 = omega arith in ap (λ (i : ℕ). run none (listed t i [] t.buffer) rest) e
+    let e : n ≡ n + 0 = omega arith in ap (λ (i : ℕ). run None (listed t i [] t.buffer) rest) e
 within_payload t n (x ∷ p) rest h o =
     let k = suc (length p) in
     let u = moved t n (Payload k 0) t.buffer in
     let b = put t.buffer 0 (x ∷ p) in
-    run_octets none u k 0 (x ∷ p) rest refl refl (omega arith) (omega arith) (omega arith) o
-    ∙ ap (λ (v : Stage). run none v rest)
+    run_octets None u k 0 (x ∷ p) rest refl refl (omega arith) (omega arith) (omega arith) o
+    ∙ ap (λ (v : Stage). run None v rest)
     (within-moved t n (Payload k 0) t.buffer (n + k) (k - k) (0 + k) b
     ∙ sym (within-whole t (n + k) (k - k) (0 + k) b (omega arith))
     ∙ ap (λ (q : List ℕ). listed t (n + k) q b) (take_put t.buffer 0 (x ∷ p) (omega arith)))
@@ -100,7 +100,7 @@ record Between (t : Stage) : Type 0 where
 with_length : Stage → List ℕ → List ℕ → ℕ
 with_length t p rest = t.taken + length (entry p ++ rest) - length (p ++ rest)
 
-run-entry : (t : Stage) (p rest : List ℕ) → Between t → length p ≤ 1400 → run none t (entry p ++ rest) ≡ run none (after t (with_length t p rest) p) rest
+run-entry : (t : Stage) (p rest : List ℕ) → Between t → length p ≤ 1400 → run None t (entry p ++ rest) ≡ run None (after t (with_length t p rest) p) rest
 unfolding head_stage with_length
 run-entry t p rest w h =
     run_head t 0 0 (entry p ++ rest) w.phase
@@ -119,31 +119,31 @@ NoPayload xs = (p rest : List ℕ) → length p ≤ 1400 → xs ≡ entry p ++ r
 data View (t : Stage) (xs : List ℕ) : Type 0 where
   empty : xs ≡ [] → View t xs
   payload : (p rest : List ℕ) → length p ≤ 1400 → xs ≡ entry p ++ rest → View t xs
-  cut : (xs ≡ [] → ⊥) → NoPayload xs → closed (run none t xs) ≡ t.output ++ cut_line t.lines → View t xs
+  cut : (xs ≡ [] → ⊥) → NoPayload xs → closed (run None t xs) ≡ t.output ++ cut_line t.lines → View t xs
 
 -- some octets are too few to end a length
 short_some : (v k v' k' : ℕ) (xs : List ℕ) → head_from 2 1400 v k xs ≡ short v' k' → k + length xs ≡ k'
 short_some v k v' k' [] e = let q : k ≡ k' = cc in omega arith
 short_some v k v' k' (x ∷ xs) e = go (λ w d. short_some w (k + 1) v' k' xs d) (step_of 2 1400 v k x) e
   where
-    go : ((w : ℕ) → head_from 2 1400 w (k + 1) xs ≡ short v' k' → k + 1 + length xs ≡ k') → (g : Group)
-        → elim g [ More w ↦ head_from 2 1400 w (k + 1) xs | Last m ↦ number m xs | Bad ↦ bad ] ≡ short v' k' → k + suc (length xs) ≡ k'
-    go ih (More w) d = omega (arith, ih w d)
-    go ih (Last m) d = absurd (let z : ◌≡◌ {A = ℕ} 0 1 = cc in omega arith)
-    go ih Bad d = absurd (let z : ◌≡◌ {A = ℕ} 0 1 = cc in omega arith)
+    go : ((w : ℕ) → head_from 2 1400 w (k + 1) xs ≡ short v' k' → k + 1 + length xs ≡ k') → (g : Option Group)
+        → elim g [ Some (More w) ↦ head_from 2 1400 w (k + 1) xs | Some (Last m) ↦ number m xs | None ↦ bad ] ≡ short v' k' → k + suc (length xs) ≡ k'
+    go ih (Some (More w)) d = omega (arith, ih w d)
+    go ih (Some (Last m)) d = absurd (let z : ◌≡◌ {A = ℕ} 0 1 = cc in omega arith)
+    go ih None d = absurd (let z : ◌≡◌ {A = ℕ} 0 1 = cc in omega arith)
 
 -- an input that ends inside a payload
 closed_inside : (t : Stage) (n m : ℕ) (rest : List ℕ) → length rest < m → m ≤ 1400 → 1400 ≤ length t.buffer
-    → closed (run none (within t n m 0 t.buffer) rest) ≡ t.output ++ cut_line t.lines
+    → closed (run None (within t n m 0 t.buffer) rest) ≡ t.output ++ cut_line t.lines
 closed_inside t n zero rest l h o = absurd (omega arith)
 closed_inside t n (suc m) [] l h o = refl
 closed_inside t n (suc m) (x ∷ rest) l h o =
     let u = moved t n (Payload (suc m) 0) t.buffer in
     let b = put t.buffer 0 (x ∷ rest) in
     let k = suc (length rest) in
-    ap (λ (ys : List ℕ). closed (run none u ys)) (sym (append-nil (x ∷ rest)))
+    ap (λ (ys : List ℕ). closed (run None u ys)) (sym (append-nil (x ∷ rest)))
     ∙ ap closed
-    (run_octets none u (suc m) 0 (x ∷ rest) [] refl refl (omega arith) (omega arith) (omega arith) o
+    (run_octets None u (suc m) 0 (x ∷ rest) [] refl refl (omega arith) (omega arith) (omega arith) o
     ∙ sym (within_more u (n + k) (suc m - k) (0 + k) b (omega arith)))
 
 view : (t : Stage) (xs : List ℕ) → Between t → Octets xs → View t xs
@@ -154,7 +154,7 @@ view t (x ∷ xs) w o = go (head_of 2 1400 (x ∷ xs)) refl
     some : ◌≡◌ {A = List ℕ} (x ∷ xs) [] → ⊥
     some e = omega (arith, ap length e)
 
-    ran : (h : Head) → head_of 2 1400 (x ∷ xs) ≡ h → run none t (x ∷ xs) ≡ head_stage t (t.taken + length (x ∷ xs)) h
+    ran : (h : Head) → head_of 2 1400 (x ∷ xs) ≡ h → run None t (x ∷ xs) ≡ head_stage t (t.taken + length (x ∷ xs)) h
     ran h e = run_head t 0 0 (x ∷ xs) w.phase ∙ ap (head_stage t (t.taken + length (x ∷ xs))) e
 
     go : (h : Head) → head_of 2 1400 (x ∷ xs) ≡ h → View t (x ∷ xs)
@@ -192,22 +192,22 @@ entry_some p = rw (length-append (groups_of 2 (length p)) p) (go (below_or (leng
 
 -- the listing behind a payload
 closed-entry : (t : Stage) (xs p rest more : List ℕ) → Between t → length p ≤ 1400 → xs ≡ entry p ++ rest
-    → ((u : Stage) → Between u → u.lines ≡ following t.lines → closed (run none u rest) ≡ u.output ++ more)
-    → closed (run none t xs) ≡ t.output ++ (payload_line (following t.lines) p ++ more)
+    → ((u : Stage) → Between u → u.lines ≡ following t.lines → closed (run None u rest) ≡ u.output ++ more)
+    → closed (run None t xs) ≡ t.output ++ (payload_line (following t.lines) p ++ more)
 unfolding after
 closed-entry t xs p rest more w h e ih =
     let n = with_length t p rest in
-    ap (λ (l : List ℕ). closed (run none t l)) e
+    ap (λ (l : List ℕ). closed (run None t l)) e
     ∙ ap closed (run-entry t p rest w h)
     ∙ ih (after t n p) (between_after t n p w h) refl
     ∙ append_assoc t.output (payload_line (following t.lines) p) more
 
-closed_empty : (t : Stage) (xs : List ℕ) → Between t → xs ≡ [] → closed (run none t xs) ≡ t.output ++ end_line t.lines
+closed_empty : (t : Stage) (xs : List ℕ) → Between t → xs ≡ [] → closed (run None t xs) ≡ t.output ++ end_line t.lines
 closed_empty t xs w e =
-    ap (λ (l : List ℕ). closed (run none t l)) e ∙ ap (λ (f : Phase). closed (moved t t.taken f t.buffer)) w.phase
+    ap (λ (l : List ℕ). closed (run None t l)) e ∙ ap (λ (f : Phase). closed (moved t t.taken f t.buffer)) w.phase
 
 -- an output that is said line by line is the one that is computed, whatever came before it
-only_from : (n : ℕ) (xs out : List ℕ) → Octets xs → Lists n xs out → (t : Stage) → Between t → t.lines ≡ n → closed (run none t xs) ≡ t.output ++ out
+only_from : (n : ℕ) (xs out : List ℕ) → Octets xs → Lists n xs out → (t : Stage) → Between t → t.lines ≡ n → closed (run None t xs) ≡ t.output ++ out
 only_from n xs out o (ends e q) t w l = closed_empty t xs w e ∙ ap (λ (i : ℕ). t.output ++ end_line i) l ∙ ap (λ (ys : List ℕ). t.output ++ ys) (sym q)
 only_from n xs out o (lists p rest more h e d q) t w l =
     closed-entry t xs p rest more w h e (λ u v m. only_from (following n) rest more (octets_behind (entry p) rest e o) d u v (m ∙ ap following l))
@@ -215,7 +215,7 @@ only_from n xs out o (lists p rest more h e d q) t w l =
     ∙ ap (λ (ys : List ℕ). t.output ++ ys) (sym q)
 only_from n xs out o (cuts s g q) t w l = go (view t xs w o)
   where
-    go : View t xs → closed (run none t xs) ≡ t.output ++ out
+    go : View t xs → closed (run None t xs) ≡ t.output ++ out
     go (empty e) = absurd (s e)
     go (payload p rest h e) = absurd (g p rest h e)
     go (cut a b e) = e ∙ ap (λ (i : ℕ). t.output ++ cut_line i) l ∙ ap (λ (ys : List ℕ). t.output ++ ys) (sym q)
@@ -254,7 +254,7 @@ pub says : (xs : List ℕ) → Octets xs → Lists 0 xs (listing xs)
 says xs o = let r = said (length xs) 0 xs o (omega arith) in subst (Lists 0 xs) (only xs r.0 o r.1) r.1
 
 -- whatever the payload's buffer holds at first
-pub any_buffer : (b xs : List ℕ) → Octets xs → 1400 ≤ length b → closed (run none (started fresh b) xs) ≡ listing xs
+pub any_buffer : (b xs : List ℕ) → Octets xs → 1400 ≤ length b → closed (run None (started fresh b) xs) ≡ listing xs
 unfolding begun
 any_buffer b xs o h =
     let r = said (length xs) 0 xs o (omega arith) in

@@ -2,7 +2,7 @@
 use mathlib.Core.Path.{◌≡◌, refl, sym, ap, ◌∙◌}
 use mathlib.Core.Bool.{Bool, true, false, cond}
 use mathlib.Core.List.{List, [], ◌∷◌, ◌++◌}
-use mathlib.Core.Option.{Option, none, some}
+use Rattle.std.specs.Prelude.{Option, Some, None}
 use Prim.Native.Nat.{ℕ, zero, suc, ◌+◌, ◌-◌, ◌≤◌}
 use native.Mathlib.Omega.{arith}
 use lib.ListN.{length, set, take, length-set}
@@ -11,7 +11,7 @@ use Rattle.octets.specs.Put.{put}
 use Rattle.octets.proofs.Put.{put_one, put-cons}
 use Rattle.leb128.specs.Number.{step_of}
 use Rattle.leb128.specs.declared.Group.{Group}
-use Rattle.leb128.specs.declared.Group.TheVariants.{More, Last, Bad}
+use Rattle.leb128.specs.declared.Group.TheVariants.{More, Last}
 use Rattle.listing.specs.Listing.{Stage, moved, listed, within, grouped, is_in_payload, next_in, next, has_room, run}
 use Rattle.listing.specs.declared.Phase.{Phase}
 use Rattle.listing.specs.declared.Phase.TheVariants.{Length, Payload, BadLength}
@@ -29,8 +29,8 @@ run_full room t (x ∷ xs) h = ap (λ (b : Bool). cond b (run room (next t x) xs
 
 -- as much room as before, where no line is written
 room_moved : (room : Option ℕ) (t : Stage) (n : ℕ) (f : Phase) (b : List ℕ) → has_room room t ≡ true → has_room room (moved t n f b) ≡ true
-room_moved none t n f b h = h
-room_moved (some r) t n f b h = h
+room_moved None t n f b h = h
+room_moved (Some r) t n f b h = h
 
 -- it ends no payload, or one, whose line it makes
 pub data Next (t : Stage) : Stage → Type 0 where
@@ -44,10 +44,10 @@ next_view t x = go t.phase
     inside zero have b = lines (take have b) b
     inside (suc left) have b = moves (Payload (suc left) have) b
 
-    group : (k : ℕ) (g : Group) → Next t (grouped t k g)
-    group k (More v) = moves (Length v (k + 1)) t.buffer
-    group k (Last m) = inside m 0 t.buffer
-    group k Bad = moves BadLength t.buffer
+    group : (k : ℕ) (g : Option Group) → Next t (grouped t k g)
+    group k (Some (More v)) = moves (Length v (k + 1)) t.buffer
+    group k (Some (Last m)) = inside m 0 t.buffer
+    group k None = moves BadLength t.buffer
 
     held : (i : Bool) (left have : ℕ) (b : List ℕ) → Next t (cond i (within t (t.taken + 1) left have b) (moved t (t.taken + 1) BadLength t.buffer))
     held true left have b = inside left have b
@@ -154,19 +154,19 @@ next_taken t x = go (next_view t x)
     go (moves f b) = refl
     go (lines p b) = refl
 
-pub run_taken : (r : ℕ) (t : Stage) (xs : List ℕ) → t.taken ≤ (run (some r) t xs).taken
+pub run_taken : (r : ℕ) (t : Stage) (xs : List ℕ) → t.taken ≤ (run (Some r) t xs).taken
 run_taken r t [] = omega arith
-run_taken r t (x ∷ xs) = go (has_room (some r) t) (run_taken r (next t x) xs)
+run_taken r t (x ∷ xs) = go (has_room (Some r) t) (run_taken r (next t x) xs)
   where
-    go : (b : Bool) → (next t x).taken ≤ (run (some r) (next t x) xs).taken → t.taken ≤ (cond b (run (some r) (next t x) xs) t).taken
+    go : (b : Bool) → (next t x).taken ≤ (run (Some r) (next t x) xs).taken → t.taken ≤ (cond b (run (Some r) (next t x) xs) t).taken
     go true h = omega (arith, next_taken t x)
     go false h = omega arith
 
 -- some, where there are any and a line has room
-pub run_taken_some : (r : ℕ) (t : Stage) (xs : List ℕ) → 1 ≤ length xs → has_room (some r) t ≡ true → t.taken + 1 ≤ (run (some r) t xs).taken
+pub run_taken_some : (r : ℕ) (t : Stage) (xs : List ℕ) → 1 ≤ length xs → has_room (Some r) t ≡ true → t.taken + 1 ≤ (run (Some r) t xs).taken
 run_taken_some r t [] h o = absurd (omega arith)
 run_taken_some r t (x ∷ xs) h o =
-    omega (arith, next_taken t x, run_taken r (next t x) xs, ap (λ (u : Stage). u.taken) (run_some (some r) t x xs o))
+    omega (arith, next_taken t x, run_taken r (next t x) xs, ap (λ (u : Stage). u.taken) (run_some (Some r) t x xs o))
 
 pub run_upto : (room : Option ℕ) (t : Stage) (xs : List ℕ) → (run room t xs).taken ≤ t.taken + length xs
 run_upto room t [] = omega arith

@@ -1,5 +1,6 @@
 -- docs/FORMAT.md, "Listing": the lines, as octets of ASCII.
 use Rattle.std.specs.Prelude.{cond, List, [], ◌∷◌, ◌++◌, ℕ, zero, suc, ◌+◌, ◌/◌, ◌%◌, ltb, length}
+use Rattle.refusal.specs.Numbers.{number_of}
 use Rattle.wire.specs.Walk.{Walk, at, refused, read_of}
 use Rattle.wire.specs.declared.Framing.TheVariants.{Unframed}
 use Rattle.clock.specs.Time.{ticks_of}
@@ -40,7 +41,7 @@ line_with n word a b = decimal n ++ numbered word a ++ numbered (32 ∷ []) b ++
 -- "(number, frames, ticks; or number, refusal, place)": the line of the payload with the number n, by the walk over it
 abbrev pub line_of : ℕ → Walk → List ℕ
 line_of n (at u fs) = line_with n ok_word (length fs) (ticks_of fs)
-line_of n (refused k place behind) = line_with n refused_word k place
+line_of n (refused reason place behind) = line_with n refused_word (number_of reason) place
 
 -- the line of the payload p, which has the number n, read as framing not agreed
 abbrev pub payload_line : ℕ → List ℕ → List ℕ

@@ -1,10 +1,9 @@
 -- docs/FORMAT.md, "Listing": from the input's octets to the output's. `Lists` says it line by line, in the paper's words. `listing` computes it
 -- octet by octet, as it is carried from one part of an input to the next; proofs/LineByLine.antt shows that the two are the same.
-use Rattle.std.specs.Prelude.{◌≡◌, Bool, true, false, cond, ◌&&◌, List, [], ◌∷◌, ◌++◌, ℕ, zero, suc, ◌+◌, ◌-◌, ◌≤◌, ltb, leb, eqb, length, take, set, replicate}
-use Rattle.std.proofs.Math.Option.{Option, none, some}
+use Rattle.std.specs.Prelude.{◌≡◌, Bool, true, false, cond, ◌&&◌, List, [], ◌∷◌, ◌++◌, ℕ, zero, suc, ◌+◌, ◌-◌, ◌≤◌, ltb, leb, eqb, length, take, set, replicate, Option, Some, None}
 use Rattle.leb128.specs.Number.{groups_of, step_of}
 use Rattle.leb128.specs.declared.Group.{Group}
-use Rattle.leb128.specs.declared.Group.TheVariants.{More, Last, Bad}
+use Rattle.leb128.specs.declared.Group.TheVariants.{More, Last}
 use Rattle.listing.specs.Line.{payload_line, end_line, cut_line}
 use Rattle.listing.specs.declared.Phase.{Phase}
 use Rattle.listing.specs.declared.Phase.TheVariants.{Length, Payload, BadLength}
@@ -70,10 +69,10 @@ within t n zero have b = listed t n (take have b) b
 within t n (suc left) have b = moved t n (Payload (suc left) have) b
 
 -- what an octet of a length comes to, behind k groups
-abbrev pub grouped : Stage → ℕ → Group → Stage
-grouped t k (More value) = moved t (t.taken + 1) (Length value (k + 1)) t.buffer
-grouped t k (Last count) = within t (t.taken + 1) count 0 t.buffer
-grouped t k Bad = moved t (t.taken + 1) BadLength t.buffer
+abbrev pub grouped : Stage → ℕ → Option Group → Stage
+grouped t k (Some (More value)) = moved t (t.taken + 1) (Length value (k + 1)) t.buffer
+grouped t k (Some (Last count)) = within t (t.taken + 1) count 0 t.buffer
+grouped t k None = moved t (t.taken + 1) BadLength t.buffer
 
 -- octets are to come, and a buffer of 1,400 holds them and those that came: so in each phase that `list` answers
 abbrev pub is_in_payload : ℕ → ℕ → Bool
@@ -97,8 +96,8 @@ line_room = 71
 
 -- behind the output so far a line has room, in a buffer of so many octets; without one, always
 abbrev pub has_room : Option ℕ → Stage → Bool
-has_room none t = true
-has_room (some room) t = leb (length t.output + line_room) room
+has_room None t = true
+has_room (Some room) t = leb (length t.output + line_room) room
 
 -- octet by octet, as long as any line has room. The rules leave free how many octets a call takes, and what the payload's buffer holds beside
 -- the octets that came: here it takes all that it can, and stores each octet of a payload at its index and nothing else
@@ -134,4 +133,4 @@ closed t = t.output ++ closing_line (state_of t)
 
 -- the listing of an input: "It starts from a buffer of 1,400 octets, all 0"
 unfoldable pub listing : List ℕ → List ℕ
-listing xs = closed (run none (started fresh (replicate most_octets 0)) xs)
+listing xs = closed (run None (started fresh (replicate most_octets 0)) xs)

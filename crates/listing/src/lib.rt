@@ -2,23 +2,21 @@
 // that is not whole yet, in a buffer that the caller lends, are carried from one part to the next.
 #![tactic(auto)]
 
-ghost use Rattle.std.specs.Prelude.{◌≡◌, [], ◌∷◌, ◌+◌, ◌≤◌, ◌<◌, min, length};
-ghost use Rattle.std.proofs.Math.Option.{some};
+ghost use Rattle.std.specs.Prelude.{◌≡◌, [], ◌∷◌, ◌+◌, ◌≤◌, ◌<◌, length};
 ghost use Rattle.listing.specs.Line.{decimal, numbered, line_with, payload_line, last_line};
-ghost use Rattle.listing.specs.Listing.{following, within, is_in_payload, run, is_whole, closing_line, started, fresh};
+ghost use Rattle.listing.specs.Listing.{within, is_in_payload, is_whole, fresh};
 ghost use Rattle.listing.specs.Answers.{ListsPart, Closes};
-ghost use Rattle.listing.specs.Steps.{Stored, stage_of, Ready, Reaches, Advances, Answered};
+ghost use Rattle.listing.specs.Steps.{Stored, stage_of, Ready, Reaches, Advances};
 
-use leb128::Group;
-use refusal::Refusal;
-use wire::{Framing, Walked};
+use leb128::{Group, Limits};
+use refusal::{Reason, Refusal};
+use wire::{Framing, MOST_OCTETS};
 
-const MOST_OCTETS: usize = 1400;
-
-// Of a length: its most groups, and what it is at most.
-const MOST_GROUPS: u8 = 2;
-
-const MOST_LENGTH: u64 = 1400;
+// The length of a payload.
+const LENGTH: Limits = Limits {
+    groups: 2,
+    bound: MOST_OCTETS as u64,
+};
 
 // The room that any payload line has, and any last line.
 const LINE_ROOM: usize = 71;
@@ -27,42 +25,38 @@ const LAST_LINE_ROOM: usize = 25;
 
 // Where in the input: in a length, behind groups that came to a value; in a payload, with `left` octets to come behind the first `have`, which
 // the payload's buffer holds; behind a bad length, where nothing is listed any more.
-#[derive(Clone, Copy)]
+#[derive(Clone, Copy, Debug, PartialEq, Eq, Hash)]
 pub enum Phase {
     Length { value: u64, groups: u8 },
     Payload { left: usize, have: usize },
     BadLength,
 }
 
+// Before a length.
+const BEFORE_LENGTH: Phase = Phase::Length {
+    value: 0,
+    groups: 0,
+};
+
 // What is carried from one part of the input to the next: the payload lines so far, and where the part ended.
-#[derive(Clone, Copy)]
+#[derive(Clone, Copy, Debug, PartialEq, Eq, Hash)]
 pub struct State {
     pub lines: u64,
     pub phase: Phase,
 }
 
 // What a call did: the next state, the octets of input taken, and of output written.
-#[derive(Clone, Copy)]
+#[derive(Clone, Copy, Debug, PartialEq, Eq, Hash)]
 pub struct Progress {
     pub state: State,
     pub taken: usize,
     pub written: usize,
 }
 
-#[derive(Clone, Copy)]
-pub enum Listed {
-    Part(Progress),
-    Refused(Refusal),
-}
-
-// The octets of the last line, or the refusal.
-#[derive(Clone, Copy)]
-pub enum Closed {
-    Line(usize),
-    Refused(Refusal),
-}
-
 // ---- lines
+
+// Each function answers the index behind what it stored, for the next one. (In a struct, beside the buffer, `put_decimal` would load and store
+// the index for each digit, which takes a fourth longer.)
 
 // Stores a word at an index of out, and answers the index behind it.
 fn put_word(out: &mut [u8], at: usize, word: &[u8]) -> usize
@@ -70,7 +64,7 @@ fn put_word(out: &mut [u8], at: usize, word: &[u8]) -> usize
     ensures { Stored out.old at word.now out.new result }
 {
     let end = at + word.len();
-    octets::copy(word, &mut out[at..end]);
+    out[at..end].copy_from_slice(word);
     end
 }
 
@@ -79,11 +73,12 @@ fn put_digit(out: &mut [u8], at: usize, digit: u64) -> usize
     requires { (at < length out.old) × (digit < 10) }
     ensures { Stored out.old at ((48 + digit) ∷ []) out.new result }
 {
-    out[at] = 48 + digit as u8;
+    out[at] = b'0' + digit as u8;
     at + 1
 }
 
-// Stores the digits of a number, no leading zero, at an index of out, and answers the index behind them.
+// Stores the digits of a number, no leading zero, at an index of out, and answers the index behind them. (`write!` would do, but its contract
+// does not say when it succeeds, so nothing could be promised of a line.)
 fn put_decimal(out: &mut [u8], at: usize, n: u64) -> usize
     requires { at + 20 ≤ length out.old }
     ensures { Stored out.old at (decimal n) out.new result }
@@ -106,7 +101,7 @@ fn put_numbered(out: &mut [u8], at: usize, word: &[u8], n: u64) -> usize
 
 // Stores a payload line at an index of out, and answers the index behind it.
 fn put_line(out: &mut [u8], at: usize, n: u64, word: &[u8], a: u64, b: u64) -> usize
-    requires { (at + 71 ≤ length out.old) × (length word.now ≤ 9) }
+    requires { (at + LINE_ROOM ≤ length out.old) × (length word.now ≤ 9) }
     ensures { Stored out.old at (line_with n word.now a b) out.new result }
 {
     let first = put_decimal(out, at, n);
@@ -115,208 +110,123 @@ fn put_line(out: &mut [u8], at: usize, n: u64, word: &[u8], a: u64, b: u64) -> u
     put_word(out, end, b"\n")
 }
 
-fn wide(x: usize) -> u64
-    ensures { result ≡ x }
-{
-    x as u64
-}
-
 // Stores the line of the payload with the number n at an index of out, and answers the index behind it. It is read as framing not agreed.
 fn put_payload_line(out: &mut [u8], at: usize, n: u64, payload: &[u8]) -> usize
-    requires { at + 71 ≤ length out.old }
+    requires { at + LINE_ROOM ≤ length out.old }
     ensures { Stored out.old at (payload_line n payload.now) out.new result }
 {
-    let walked = wire::walk(Framing::Unframed, payload);
-    match walked {
-        Walked::Whole(summary) => {
+    match wire::walk(Framing::Unframed, payload) {
+        Ok(summary) => {
             let ticks = clock::ticks_of(summary);
-            put_line(out, at, n, b" ok ", wide(summary.frames), wide(ticks.0))
+            put_line(out, at, n, b" ok ", summary.frames as u64, ticks.0 as u64)
         }
-        Walked::Refused(refusal) => put_line(
+        Err(refusal) => put_line(
             out,
             at,
             n,
             b" refused ",
-            refusal.number as u64,
-            wide(refusal.place),
+            u64::from(u8::from(refusal.reason)),
+            refusal.place as u64,
         ),
     }
 }
 
 // Stores a last line at the start of out, and answers its octets.
 fn put_last_line(out: &mut [u8], word: &[u8], n: u64) -> usize
-    requires { (25 ≤ length out.old) × (length word.now ≤ 4) }
+    requires { (LAST_LINE_ROOM ≤ length out.old) × (length word.now ≤ 4) }
     ensures { Stored out.old 0 (last_line word.now n) out.new result }
 {
     let end = put_numbered(out, 0, word, n);
     put_word(out, end, b"\n")
 }
 
-// The number of the next payload line.
-fn next_line(lines: u64) -> u64
-    ensures { result ≡ following lines }
-{
-    if lines < 18446744073709551615 {
-        return lines + 1;
-    }
-    lines
-}
-
 // ---- a part of the input
 
-// The progress where so many octets are taken, with no line more, in this phase.
-fn moved(progress: Progress, taken: usize, phase: Phase) -> Progress
-    ensures { result ≡ record { state = record { lines = progress.state.lines; phase = phase }; taken = taken; written = progress.written } }
-{
-    Progress {
-        state: State {
-            lines: progress.state.lines,
-            phase,
-        },
-        taken,
-        written: progress.written,
-    }
-}
-
-// The progress where so many octets are taken, in a payload with `left` octets to come behind the first `have`. With none to come it is
-// whole, and its line is written.
-fn in_payload(
-    progress: Progress,
+// A call of `list` as it goes on: the state, the octets of input taken and of output written so far, and the buffers of both. (That for a payload
+// stays beside it: the checker makes no proof yet of a call that is lent two fields of one struct.)
+#[derive(Drop)]
+struct Call<'i, 'o> {
+    state: State,
     taken: usize,
-    left: usize,
-    have: usize,
-    payload: &[u8],
-    out: &mut [u8],
-) -> Progress
-    requires { (progress.written + 71 ≤ length out.old) × (have ≤ length payload.now) }
-    ensures { Reaches progress (within (stage_of progress payload.now out.old) taken left have payload.now) out.old result payload.now out.new }
-{
-    if 0 < left {
-        return moved(progress, taken, Phase::Payload { left, have });
-    }
-    let lines = next_line(progress.state.lines);
-    let written = put_payload_line(out, progress.written, lines, &payload[..have]);
-    Progress {
-        state: State {
+    written: usize,
+    input: &'i [u8],
+    out: &'o mut [u8],
+}
+
+impl Call<'_, '_> {
+    // Goes on in a payload with `left` octets to come behind the first `have`. With none to come it is whole, and its line is written. (The two are
+    // what `Phase::Payload` holds: a match binds them, and a struct for them would be no plainer.)
+    fn in_payload(&mut self, left: usize, have: usize, payload: &[u8])
+        requires { (self.old.written + LINE_ROOM ≤ length self.old.out.now) × (have ≤ length payload.now) }
+        ensures { Reaches self.old (within (stage_of self.old payload.now) self.old.taken left have payload.now) self.new payload.now }
+    {
+        if 0 < left {
+            self.state.phase = Phase::Payload { left, have };
+            return;
+        }
+        let lines = self.state.lines.saturating_add(1);
+        let at = self.written;
+        self.written = put_payload_line(self.out, at, lines, &payload[..have]);
+        self.state = State {
             lines,
-            phase: Phase::Length {
-                value: 0,
-                groups: 0,
-            },
-        },
-        taken,
-        written,
+            phase: BEFORE_LENGTH,
+        };
     }
-}
 
-// Takes an octet of a length.
-fn take_length_octet(
-    progress: Progress,
-    value: u64,
-    groups: u8,
-    input: &[u8],
-    payload: &[u8],
-    out: &mut [u8],
-) -> Progress
-    requires { Ready progress input.now payload.now out.old × (progress.state.phase ≡ Phase.Length value groups) }
-    ensures { Advances progress input.now payload.now out.old result payload.now out.new }
-{
-    let taken = progress.taken;
-    let group = leb128::step(value, groups, input[taken], MOST_GROUPS, MOST_LENGTH);
-    match group {
-        Group::More(more) => moved(
-            progress,
-            taken + 1,
-            Phase::Length {
-                value: more,
-                groups: groups + 1,
-            },
-        ),
-        Group::Last(count) => in_payload(progress, taken + 1, count as usize, 0, payload, out),
-        Group::Bad => moved(progress, taken + 1, Phase::BadLength),
+    // Takes an octet of a length.
+    fn take_length_octet(&mut self, value: u64, groups: u8, payload: &[u8])
+        requires { Ready self.old payload.now × (self.old.state.phase ≡ Phase.Length value groups) }
+        ensures { Advances self.old payload.now self.new payload.now }
+    {
+        let octet = self.input[self.taken];
+        self.taken += 1;
+        match leb128::step(value, groups, octet, LENGTH) {
+            Some(Group::More(value)) => {
+                self.state.phase = Phase::Length {
+                    value,
+                    groups: groups + 1,
+                }
+            }
+            Some(Group::Last(count)) => self.in_payload(count as usize, 0, payload),
+            None => self.state.phase = Phase::BadLength,
+        }
     }
-}
 
-fn least(a: usize, b: usize) -> usize
-    ensures { result ≡ min a b }
-{
-    if a < b { a } else { b }
-}
+    // Takes octets of a payload: all that are to come, as far as the input has them.
+    fn take_payload_octets(&mut self, left: usize, have: usize, payload: &mut [u8])
+        requires { Ready self.old payload.old × (self.old.state.phase ≡ Phase.Payload left have) × (1 ≤ left) × (have + left ≤ MOST_OCTETS) }
+        ensures { Advances self.old payload.old self.new payload.new }
+    {
+        let unread = &self.input[self.taken..];
+        let count = left.min(unread.len());
+        octets::copy(&unread[..count], &mut payload[have..have + count]);
+        self.taken += count;
+        self.in_payload(left - count, have + count, payload);
+    }
 
-// Takes octets of a payload: all that are to come, as far as the input has them.
-fn take_payload_octets(
-    progress: Progress,
-    left: usize,
-    have: usize,
-    input: &[u8],
-    payload: &mut [u8],
-    out: &mut [u8],
-) -> Progress
-    requires { Ready progress input.now payload.old out.old × (progress.state.phase ≡ Phase.Payload left have) × (1 ≤ left) × (have + left ≤ 1400) }
-    ensures { Advances progress input.now payload.old out.old result payload.new out.new }
-{
-    let taken = progress.taken;
-    let count = least(left, input.len() - taken);
-    let end = taken + count;
-    let full = have + count;
-    octets::copy(&input[taken..end], &mut payload[have..full]);
-    in_payload(progress, end, left - count, full, payload, out)
+    // Takes some octets of the input: one of a length, those that there are of a payload, or, behind a bad length, all.
+    fn take_some(&mut self, payload: &mut [u8])
+        requires { Ready self.old payload.old }
+        ensures { Advances self.old payload.old self.new payload.new }
+    {
+        match self.state.phase {
+            Phase::Length { value, groups } => self.take_length_octet(value, groups, payload),
+            Phase::Payload { left, have } if is_in_payload(left, have) => {
+                self.take_payload_octets(left, have, payload)
+            }
+            _ => {
+                self.taken = self.input.len();
+                self.state.phase = Phase::BadLength;
+            }
+        }
+    }
 }
 
 // Whether octets are to come and the payload's buffer holds them and those that came.
 fn is_in_payload(left: usize, have: usize) -> bool
     ensures { result ≡ is_in_payload left have }
 {
-    if left == 0 {
-        return false;
-    }
-    if MOST_OCTETS < left {
-        return false;
-    }
-    if MOST_OCTETS - left < have {
-        return false;
-    }
-    true
-}
-
-// Takes some octets of the input: one of a length, those that there are of a payload, or, behind a bad length, all.
-fn take_some(progress: Progress, input: &[u8], payload: &mut [u8], out: &mut [u8]) -> Progress
-    requires { Ready progress input.now payload.old out.old }
-    ensures { Advances progress input.now payload.old out.old result payload.new out.new }
-{
-    let state = progress.state;
-    let phase = state.phase;
-    match phase {
-        Phase::Length { value, groups } => {
-            return take_length_octet(progress, value, groups, input, payload, out);
-        }
-        Phase::Payload { left, have } => {
-            if is_in_payload(left, have) {
-                return take_payload_octets(progress, left, have, input, payload, out);
-            }
-        }
-        Phase::BadLength => {}
-    }
-    moved(progress, input.len(), Phase::BadLength)
-}
-
-// Lists a part of the input, as long as any line has room.
-fn list_part(state: State, input: &[u8], payload: &mut [u8], out: &mut [u8]) -> Progress
-    requires { 1400 ≤ length payload.old }
-    ensures { Answered (run (some (length out.old)) (started state payload.old) input.now) out.old result payload.new out.new }
-{
-    let mut progress = Progress {
-        state,
-        taken: 0,
-        written: 0,
-    };
-    while progress.taken < input.len() {
-        if out.len() - progress.written < LINE_ROOM {
-            return progress;
-        }
-        progress = take_some(progress, input, payload, out);
-    }
-    progress
+    0 < left && left <= MOST_OCTETS && have <= MOST_OCTETS - left
 }
 
 // The state before any input.
@@ -325,31 +235,41 @@ pub fn start() -> State
 {
     State {
         lines: 0,
-        phase: Phase::Length {
-            value: 0,
-            groups: 0,
-        },
+        phase: BEFORE_LENGTH,
     }
 }
 
 // Lists a part of the input: takes octets of it and writes their lines to the front of out, as long as any line has room there. What it does
 // not take is the start of the next part. The buffer for a payload, of at least 1,400 octets, is lent to each call as the call before left it.
-pub fn list(state: State, input: &[u8], payload: &mut [u8], out: &mut [u8]) -> Listed
+pub fn list(
+    state: State,
+    input: &[u8],
+    payload: &mut [u8],
+    out: &mut [u8],
+) -> Result<Progress, Refusal>
     ensures { ListsPart state input.now payload.old out.old result payload.new out.new }
 {
     if payload.len() < MOST_OCTETS {
-        return Listed::Refused(Refusal {
-            number: refusal::OCTETS_TOO_SHORT,
-            place: MOST_OCTETS,
-        });
+        return Err(Reason::OctetsTooShort.at(MOST_OCTETS));
     }
     if out.len() < LINE_ROOM {
-        return Listed::Refused(Refusal {
-            number: refusal::OCTETS_TOO_SHORT,
-            place: LINE_ROOM,
-        });
+        return Err(Reason::OctetsTooShort.at(LINE_ROOM));
     }
-    Listed::Part(list_part(state, input, payload, out))
+    let mut call = Call {
+        state,
+        taken: 0,
+        written: 0,
+        input,
+        out,
+    };
+    while call.taken < call.input.len() && LINE_ROOM <= call.out.len() - call.written {
+        call.take_some(payload);
+    }
+    Ok(Progress {
+        state: call.state,
+        taken: call.taken,
+        written: call.written,
+    })
 }
 
 // ---- the last line
@@ -358,37 +278,23 @@ pub fn list(state: State, input: &[u8], payload: &mut [u8], out: &mut [u8]) -> L
 fn is_whole(phase: Phase) -> bool
     ensures { result ≡ is_whole phase }
 {
-    match phase {
-        Phase::Length { value: _, groups } => groups == 0,
-        Phase::Payload { left: _, have: _ } => false,
-        Phase::BadLength => false,
-    }
-}
-
-// Stores the last line of an input that ends in this state at the start of out, and answers its octets.
-fn put_closing_line(out: &mut [u8], state: State) -> usize
-    requires { 25 ≤ length out.old }
-    ensures { Stored out.old 0 (closing_line state) out.new result }
-{
-    let phase = state.phase;
-    if is_whole(phase) {
-        return put_last_line(out, b"end ", state.lines);
-    }
-    put_last_line(out, b"cut ", state.lines)
+    matches!(phase, Phase::Length { groups: 0, .. })
 }
 
 // Writes the last line, behind all of the input, to the front of out.
-pub fn close(state: State, out: &mut [u8]) -> Closed
+pub fn close(state: State, out: &mut [u8]) -> Result<usize, Refusal>
     ensures { Closes state out.old result out.new }
 {
+    let word = if is_whole(state.phase) {
+        b"end "
+    } else {
+        b"cut "
+    };
     let mut line = [0u8; LAST_LINE_ROOM];
-    let n = put_closing_line(&mut line, state);
+    let n = put_last_line(&mut line, word, state.lines);
     if out.len() < n {
-        return Closed::Refused(Refusal {
-            number: refusal::OCTETS_TOO_SHORT,
-            place: n,
-        });
+        return Err(Reason::OctetsTooShort.at(n));
     }
-    put_word(out, 0, &line[..n]);
-    Closed::Line(n)
+    out[..n].copy_from_slice(&line[..n]);
+    Ok(n)
 }

@@ -1,17 +1,13 @@
 -- What the loop over a block keeps: from the octets that are left the run comes to where it comes from the start.
-use mathlib.Core.Path.{◌≡◌, sym, ap, ◌∙◌}
-use mathlib.Core.List.{List, [], append-nil}
-use mathlib.Core.Option.{none}
-use Prim.Native.Nat.{ℕ, ◌+◌, ◌-◌, ◌≤◌, ◌<◌}
-use native.Mathlib.Omega.{arith}
-use lib.ListN.{length, take, drop, length-drop}
-use lib.Seq.{take_all, drop-drop}
+use Rattle.std.proofs.Common.{◌≡◌, List, [], ℕ, ◌<◌, ◌≤◌, ◌-◌, None, Result, Ok, Err, MatchResult, length, take, drop, length-drop, arith, ap, sym, ◌∙◌}
+use Rattle.std.proofs.Math.Seq.{take_all}
+use mathlib.Core.List.{append-nil}
+use Rattle.std.specs.declared.io.Error.{Error}
+use Rattle.refusal.specs.declared.Refusal.{Refusal}
 use Rattle.listing.specs.Listing.{Stage, run, state_of, started}
 use Rattle.listing.specs.Answers.{ListsPart}
 use Rattle.listing.specs.declared.State.{State}
 use Rattle.listing.specs.declared.Progress.{Progress}
-use Rattle.listing.specs.declared.Listed.{Listed}
-use Rattle.listing.specs.declared.Listed.TheVariants as listed
 use Rattle.listing.proofs.Answering.{part_taken, part_some}
 use Rattle.listing.proofs.Joined.{part-run}
 
@@ -23,32 +19,35 @@ pub record Carried : Type 0 where
 abbrev carried : Stage → Carried
 carried t = record { state = state_of t; buffer = t.buffer }
 
-pub record Kept (s₀ : State) (input b₀ o₀ : List ℕ) (s : State) (b o : List ℕ) (from : ℕ) : Type 0 where
-  pub upto : from ≤ length input
-  pub b_long : length b ≡ length b₀
-  pub o_long : length o ≡ length o₀
-  pub same : carried (run none (started s₀ b₀) input) ≡ carried (run none (started s b) (drop from input))
+-- what is carried behind all of them, from a state and a buffer on
+abbrev pub carried_from : State → List ℕ → List ℕ → Carried
+carried_from s b xs = carried (run None (started s b) xs)
 
-module _ {s₀ : State} {input b₀ o₀ : List ℕ} {s : State} {b o : List ℕ} {from : ℕ} (k : Kept s₀ input b₀ o₀ s b o from) where
-  -- a call is answered, over the octets that are left
-  module _ {b' o' : List ℕ} {r : Listed} (g : ListsPart s (take (length input - from) (drop from input)) b o r b' o') {p : Progress} (e : r ≡ listed.Part p) where
-    part : ListsPart s (drop from input) b o (listed.Part p) b' o'
-    part = rw (e, take_all (length input - from) (drop from input) (omega (arith, length-drop from input))) at g
+-- the call came to x: so says `map_err`, which makes its refusal an error, where it answers x
+abbrev pub Answers : {A : Type 0} → Result A Refusal → A → Type 0
+Answers {A} r x = MatchResult r (λ y. ◌≡◌ {A = Result A Error} (Ok x) (Ok y)) (λ _. ⊥)
 
-    pub kept_upto : from + p.taken ≤ length input
-    kept_upto = omega (arith, part_taken part, length-drop from input, k.upto)
+pub answered : {A : Type 0} (r : Result A Refusal) (x : A) → Answers r x → r ≡ Ok x
+answered {A} (Ok y) x h = let z : ◌≡◌ {A = Result A Error} (Ok x) (Ok y) = h in let w : y ≡ x = cc in ap Ok w
+answered (Err e) x h = absurd h
 
-    pub kept_some : from < length input → 1 ≤ p.taken
-    kept_some h = part_some part (omega (arith, length-drop from input))
+-- a call that is answered, over the octets that are left
+module _ {s : State} {rest b o b' o' : List ℕ} {r : Result Progress Refusal} (g : ListsPart s rest b o r b' o') (p : Progress) (a : Answers r p) where
+  part : ListsPart s rest b o (Ok p) b' o'
+  part = rw (answered r p a) at g
 
-    pub kept_step : length b' ≡ length b → length o' ≡ length o → Kept s₀ input b₀ o₀ p.state b' o' (from + p.taken)
-    kept_step lb lo = record {
-      upto = kept_upto;
-      b_long = lb ∙ k.b_long;
-      o_long = lo ∙ k.o_long;
-      same =
-          k.same
-          ∙ ap (λ (zs : List ℕ). carried (run none (started s b) zs)) (sym (append-nil (drop from input)))
-          ∙ ap carried (part-run part [])
-          ∙ ap (λ (zs : List ℕ). carried (run none (started p.state b') zs)) (append-nil (drop p.taken (drop from input)) ∙ drop-drop p.taken from input);
-    }
+  pub upto : p.taken ≤ length rest
+  upto = part_taken part
+
+  -- what is left behind it
+  left : take (length rest - p.taken) (drop p.taken rest) ≡ drop p.taken rest
+  left = take_all (length rest - p.taken) (drop p.taken rest) (omega (arith, length-drop p.taken rest))
+
+  pub smaller : 1 ≤ length rest → length (take (length rest - p.taken) (drop p.taken rest)) < length rest
+  smaller h = omega (arith, ap length left, length-drop p.taken rest, part_some part h)
+
+  pub carries : carried_from s b rest ≡ carried_from p.state b' (take (length rest - p.taken) (drop p.taken rest))
+  carries =
+      ap (carried_from s b) (sym (append-nil rest))
+      ∙ ap carried (part-run part [])
+      ∙ ap (carried_from p.state b') (append-nil (drop p.taken rest) ∙ sym left)

@@ -6,13 +6,10 @@ const MOST_OCTETS: usize = 128;
 
 // The system's text for an error. The library writes the error's number behind it: `No such file or directory (os error 2)`.
 fn reason(text: &[u8]) -> &[u8] {
-    let Ok(words) = str::from_utf8(text) else {
-        return text;
-    };
-    match words.rsplit_once(" (os error ") {
-        Some((front, _)) => front.as_bytes(),
-        None => text,
-    }
+    str::from_utf8(text)
+        .ok()
+        .and_then(|words| words.rsplit_once(" (os error "))
+        .map_or(text, |(front, _)| front.as_bytes())
 }
 
 // Writes a line to standard error: what failed, as the caller names it, a colon and the system's text for the error.

@@ -10,6 +10,9 @@ use mir.Syntax.{w32}
 use mir.Val.{SFits, to_z, of_z}
 use mir.Facts.{to_z_pos, to_z-of_z}
 use Rattle.refusal.specs.declared.Refusal.{Refusal}
+use Rattle.refusal.proofs.NumberLaws.{number_of-most}
+use Rattle.std.specs.Prelude.{Result, Ok, Err}
+use Rattle.refusal.specs.Numbers.{number_of}
 use Rattle.octets.specs.Octet.{Octets}
 use Rattle.wire.specs.Frame.{Frame, agreed_rate, Legal, octets_of}
 use Rattle.wire.specs.Walk.{Walk, read_of}
@@ -17,8 +20,6 @@ use Rattle.wire.specs.Answers.{walked_of}
 use Rattle.wire.specs.declared.Framing.{Framing}
 use Rattle.wire.specs.declared.Framing.TheVariants.{Unframed}
 use Rattle.wire.specs.declared.Summary.{Summary}
-use Rattle.wire.specs.declared.Walked.{Walked}
-use Rattle.wire.specs.declared.Walked.TheVariants as walked
 use Rattle.wire.proofs.Ranges.{frames_most}
 use Rattle.wire.proofs.Meaning.{Meaning, accepted, denied, meaning, reads_it, went, stopped}
 use Rattle.moult.specs.Promises.{host_count, Counted}
@@ -55,13 +56,13 @@ counted p r o e = go (read_of Unframed p) refl (meaning Unframed p o)
           negative = λ none. absurd (none a.fs a.legal a.gives);
         }
     go _ q (denied x d) =
-        let m : r ≡ neg_ℤ (pos x.number) = e ∙ ap host_count q in
+        let m : r ≡ neg_ℤ (pos (number_of x.reason)) = e ∙ ap host_count q in
         record {
           answer = e;
           empty = λ z. (frames [] (empty_legal Unframed) (sym z)).0;
-          only_empty = λ z. absurd (minus_some x.number d.range.0.0 (sym m ∙ z));
+          only_empty = λ z. absurd (minus_some (number_of x.reason) d.range.0.0 (sym m ∙ z));
           frames = frames;
-          negative = λ none. (x.number, d.range.0.0, d.range.0.1, m);
+          negative = λ none. (number_of x.reason, d.range.0.0, d.range.0.1, m);
         }
 
 -- ---- as the code computes it
@@ -76,19 +77,20 @@ minus_is n h = ap (λ (z : ℤ). pos 0 -ℤ z) (to_z_pos w32 {n = n} (omega arit
 pub sub_fits : (n : ℕ) → n < 256 → SFits w32 (pos 0 -ℤ to_z w32 n)
 sub_fits n h = rw (minus_is n h) (minus_fits n h)
 
-module _ (p : List ℕ) (o : Octets p) {s : Walked} (is : s ≡ walked_of (read_of Unframed p)) where
-  pub few : (x : Summary) → s ≡ walked.Whole x → x.frames ≤ 200
+module _ (p : List ℕ) (o : Octets p) {s : Result Summary Refusal} (is : s ≡ walked_of (read_of Unframed p)) where
+  pub few : (x : Summary) → s ≡ Ok x → x.frames ≤ 200
   few x e = let w = went Unframed p o is x e in omega (arith, ap (λ (y : Summary). y.frames) w.1, frames_most Unframed w.0.fs w.0.legal)
 
-  pub count_whole : (x : Summary) → s ≡ walked.Whole x → Counted p (to_z w32 x.frames)
+  pub count_whole : (x : Summary) → s ≡ Ok x → Counted p (to_z w32 x.frames)
   unfolding host_count
   count_whole x e =
       let w = went Unframed p o is x e in
       counted p (to_z w32 x.frames) o
       (to_z_pos w32 {n = x.frames} (omega (arith, few x e)) ∙ ap pos (ap (λ (y : Summary). y.frames) w.1) ∙ ap host_count (sym w.0.reads))
 
-  pub count_refused : (x : Refusal) → s ≡ walked.Refused x → x.number < 256 → Counted p (to_z w32 (of_z w32 (pos 0 -ℤ to_z w32 x.number)))
+  pub count_refused : (x : Refusal) → s ≡ Err x → Counted p (to_z w32 (of_z w32 (pos 0 -ℤ to_z w32 (number_of x.reason))))
   unfolding host_count
-  count_refused x e h =
+  count_refused x e =
       let d = stopped Unframed p o is x e in
-      counted p (to_z w32 (of_z w32 (pos 0 -ℤ to_z w32 x.number))) o (to_z-of_z (sub_fits x.number h) ∙ minus_is x.number h ∙ ap host_count (sym d.reads))
+      let h : number_of x.reason < 256 = omega (arith, number_of-most x.reason) in
+      counted p (to_z w32 (of_z w32 (pos 0 -ℤ to_z w32 (number_of x.reason)))) o (to_z-of_z (sub_fits (number_of x.reason) h) ∙ minus_is (number_of x.reason) h ∙ ap host_count (sym d.reads))

@@ -1,8 +1,7 @@
 -- The session that a C host says, and the library's answers in the structs that it is given: number and place of the refusal, 0 where
 -- accepted, then the values.
-use Rattle.std.specs.Prelude.{cond, ◌&&◌, List, ℕ, eqb, leb, length}
-use Rattle.std.proofs.Math.Option.{Option, none, some}
-use Rattle.refusal.specs.Report.{Report}
+use Rattle.std.specs.Prelude.{cond, ◌&&◌, List, ℕ, eqb, leb, length, Option, Some, None}
+use Rattle.refusal.specs.Report.{Report, report_of}
 use Rattle.octets.specs.Part.{Part}
 use Rattle.wire.specs.Frame.{table, row, body_octets}
 use Rattle.wire.specs.declared.Session.{Session}
@@ -12,7 +11,7 @@ use Rattle.wire.specs.declared.Summary.{Summary}
 use Rattle.clock.specs.declared.Ticks.{Ticks}
 use Rattle.clock.specs.declared.Millis.{Millis}
 use Rattle.fmtp.specs.declared.Settings.{Settings}
-use Rattle.record.specs.declared.Change.{Change}
+use Rattle.record.specs.Promise.{Change}
 use Rattle.record.specs.declared.RowNumbers.{RowNumbers}
 use Rattle.moult.specs.declared.MoultChange.{MoultChange}
 use Rattle.moult.specs.declared.MoultRow.{MoultRow}
@@ -24,6 +23,7 @@ use Rattle.moult.specs.declared.MoultMillis.{MoultMillis}
 use Rattle.moult.specs.declared.MoultPart.{MoultPart}
 use Rattle.journal.specs.Answers.{Located}
 use Rattle.moult.specs.declared.MoultParsed.{MoultParsed}
+use Rattle.moult.specs.declared.MoultSettings.{MoultSettings}
 use Rattle.moult.specs.declared.MoultEntry.{MoultEntry}
 
 -- 0.1.0: 10,000 times the first number, 100 times the second, and the third
@@ -37,8 +37,8 @@ session_of agreed rate = cond (eqb agreed 0) NotAgreed (Agreed rate)
 
 -- the octets of the body of a row of this kind and TC; 0 where the kind is unknown or the TC wrong for it
 unfoldable pub body_octets_of : Option Kind → ℕ → ℕ
-body_octets_of none t = 0
-body_octets_of (some k) t = cond (leb (table k).least t && leb t (table k).most) (body_octets (row k t)) 0
+body_octets_of None t = 0
+body_octets_of (Some k) t = cond (leb (table k).least t && leb t (table k).most) (body_octets (row k t)) 0
 
 -- a reading
 abbrev pub reading_of : Report Summary → MoultReading
@@ -63,13 +63,13 @@ ticks_of a = record { number = a.number; place = a.place; ticks = a.value.0 }
 abbrev pub millis_of : Report Millis → MoultMillis
 millis_of a = record { number = a.number; place = a.place; millis = a.value.0 }
 
+-- settings
+abbrev pub settings_of : Settings → MoultSettings
+settings_of s = record { first = s.first; second = s.second; third = s.third; tcmax = s.tcmax }
+
 -- a setting text that was read
 abbrev pub parsed_of : Report Settings → MoultParsed
-parsed_of a = record {
-  number = a.number;
-  place = a.place;
-  settings = record { first = a.value.first; second = a.value.second; third = a.value.third; tcmax = a.value.tcmax };
-}
+parsed_of a = record { number = a.number; place = a.place; settings = settings_of a.value }
 
 -- what stands at an index of a journal
 abbrev pub entry_of : Report Located → MoultEntry
@@ -85,7 +85,7 @@ entry_of a = record {
 
 -- what an operation on a packet record came to
 abbrev pub change_of : Change → MoultChange
-change_of c = record { number = c.refusal.number; place = c.refusal.place; after = c.after }
+change_of c = record { number = (report_of tt c.answer).number; place = (report_of tt c.answer).place; after = c.after }
 
 -- a row of a packet record
 abbrev pub row_of : Report RowNumbers → MoultRow

@@ -3,34 +3,34 @@
 #![tactic(auto)]
 
 ghost use Rattle.std.specs.Prelude.{◌≡◌, [], length};
-ghost use Rattle.std.proofs.Math.Option.{some};
+ghost use Rattle.refusal.specs.Numbers.{number_of};
+ghost use Rattle.refusal.specs.Report.{report_of};
 ghost use Rattle.wire.specs.Frame.{kind_of, sum_of, ticks, wire_octets};
-ghost use Rattle.refusal.specs.Report.{accepted, refused_with};
-ghost use Rattle.journal.specs.Answers.{nothing};
+ghost use Rattle.wire.specs.Answers.{nothing};
 ghost use Rattle.wire.specs.declared.Session.TheVariants.{NotAgreed};
+ghost use Rattle.clock.specs.Time.{ticks_in, millis_in};
+ghost use Rattle.fmtp.specs.Answers.{no_settings};
+ghost use Rattle.journal.specs.Answers.{standing_report};
 ghost use Rattle.record.specs.Afresh.{record_of};
 ghost use Rattle.record.specs.Operations.{to_push, to_pop, to_replace};
-ghost use Rattle.record.specs.Promise.{Asked};
-ghost use Rattle.moult.specs.Structs.{session_of, writing_of, entry_of, change_of, body_octets_of, version};
+ghost use Rattle.record.specs.Promise.{Asked, row_numbers, change};
+ghost use Rattle.moult.specs.Structs.{session_of, settings_of, reading_of, writing_of, ticks_of, millis_of, parsed_of, entry_of, change_of, row_of, start_of, part_of, body_octets_of, version};
 ghost use Rattle.moult.specs.Promises.{Counted, HostReads, HostWrites, HostTimes, HostPtime, HostAugments, HostShows, HostParses, HostWritesSettings, HostUnpacks, HostPacks, HostEntry, HostWritesEntry, HostChanges, HostRow, HostStart};
 
-use clock::{PacketMillis, PacketTicks};
-use fields::{Packed, Unpacked};
-use fmtp::{Parsed, Written};
-use journal::Standing;
-use reader::Reading;
-use record::{Change, Record, RowAsked, StartAsked};
+use clock::{Millis, Ticks};
+use fmtp::Settings;
+use journal::Entry;
+use record::{Record, RowNumbers};
 use refusal::Refusal;
-use views::Location;
-use wire::{Framing, Kind, Known, Row, Session, Walked};
-use writer::Writing;
+use views::Span;
+use wire::{Framing, Kind, Row, Session, Summary};
 
 // Version 0.1.0, as 10,000 times the first number, 100 times the second, and the third.
 const VERSION: u32 = 100;
 
 // A reading: the refusal's number (0 where accepted) and place; rows, body octets, the rate of the coder frames, and ticks.
 #[repr(C)]
-#[derive(Clone, Copy)]
+#[derive(Clone, Copy, Debug, PartialEq, Eq)]
 pub struct MoultReading {
     pub number: u32,
     pub rate: u32,
@@ -42,7 +42,7 @@ pub struct MoultReading {
 
 // A packet's time: number and place, and ticks of 1/8000 second.
 #[repr(C)]
-#[derive(Clone, Copy)]
+#[derive(Clone, Copy, Debug, PartialEq, Eq)]
 pub struct MoultTicks {
     pub number: u32,
     pub place: usize,
@@ -51,7 +51,7 @@ pub struct MoultTicks {
 
 // A ptime: number and place, and milliseconds.
 #[repr(C)]
-#[derive(Clone, Copy)]
+#[derive(Clone, Copy, Debug, PartialEq, Eq)]
 pub struct MoultMillis {
     pub number: u32,
     pub place: usize,
@@ -60,7 +60,7 @@ pub struct MoultMillis {
 
 // A part: of the payload, or (where `stand_in` is 1) of the stand-in.
 #[repr(C)]
-#[derive(Clone, Copy)]
+#[derive(Clone, Copy, Debug, PartialEq, Eq)]
 pub struct MoultPart {
     pub stand_in: u32,
     pub start: usize,
@@ -69,7 +69,7 @@ pub struct MoultPart {
 
 // A writing: number and place, and the octets (or, of unpacking, the fields) written.
 #[repr(C)]
-#[derive(Clone, Copy)]
+#[derive(Clone, Copy, Debug, PartialEq, Eq)]
 pub struct MoultWriting {
     pub number: u32,
     pub place: usize,
@@ -78,7 +78,7 @@ pub struct MoultWriting {
 
 // Settings: one to three rates, the preferred one first, unused places 0; and tcmax.
 #[repr(C)]
-#[derive(Clone, Copy)]
+#[derive(Clone, Copy, Debug, PartialEq, Eq)]
 pub struct MoultSettings {
     pub first: u16,
     pub second: u16,
@@ -88,7 +88,7 @@ pub struct MoultSettings {
 
 // A setting text that was read: number and place, and its settings.
 #[repr(C)]
-#[derive(Clone, Copy)]
+#[derive(Clone, Copy, Debug, PartialEq, Eq)]
 pub struct MoultParsed {
     pub number: u32,
     pub place: usize,
@@ -98,7 +98,7 @@ pub struct MoultParsed {
 // What stands at an index of a journal: number and place; how many entries, 1 or 0; of this entry its ticks and source, where its payload
 // starts, and where the next entry begins.
 #[repr(C)]
-#[derive(Clone, Copy)]
+#[derive(Clone, Copy, Debug, PartialEq, Eq)]
 pub struct MoultEntry {
     pub number: u32,
     pub entries: u32,
@@ -111,7 +111,7 @@ pub struct MoultEntry {
 
 // What an operation on a packet record came to: number and place, and the record, unchanged where refused.
 #[repr(C)]
-#[derive(Clone, Copy)]
+#[derive(Clone, Copy, Debug, PartialEq, Eq)]
 pub struct MoultChange {
     pub number: u32,
     pub place: usize,
@@ -120,7 +120,7 @@ pub struct MoultChange {
 
 // A row of a packet record: number and place, kind and TC.
 #[repr(C)]
-#[derive(Clone, Copy)]
+#[derive(Clone, Copy, Debug, PartialEq, Eq)]
 pub struct MoultRow {
     pub number: u32,
     pub kind: u16,
@@ -130,12 +130,245 @@ pub struct MoultRow {
 
 // Where a row of a packet record starts on the wire: number and place, and the index.
 #[repr(C)]
-#[derive(Clone, Copy)]
+#[derive(Clone, Copy, Debug, PartialEq, Eq)]
 pub struct MoultStart {
     pub number: u32,
     pub place: usize,
     pub start: usize,
 }
+
+// ---- the library's answers in these structs: all values 0 where refused
+
+// A refusal's number.
+fn number_of(refusal: Refusal) -> u32
+    ensures { result ≡ number_of refusal.reason }
+{
+    u32::from(u8::from(refusal.reason))
+}
+
+impl From<Result<Summary, Refusal>> for MoultReading {
+    ghost from_gives = { λ answer reading. reading ≡ reading_of (report_of nothing answer) };
+
+    fn from(answer: Result<Summary, Refusal>) -> MoultReading {
+        match answer {
+            Ok(summary) => MoultReading {
+                number: 0,
+                rate: summary.rate,
+                place: 0,
+                rows: summary.frames,
+                octets: summary.octets,
+                ticks: summary.ticks as usize,
+            },
+            Err(refusal) => MoultReading {
+                number: number_of(refusal),
+                rate: 0,
+                place: refusal.place,
+                rows: 0,
+                octets: 0,
+                ticks: 0,
+            },
+        }
+    }
+}
+
+impl From<Result<usize, Refusal>> for MoultWriting {
+    ghost from_gives = { λ answer writing. writing ≡ writing_of (report_of 0 answer) };
+
+    fn from(answer: Result<usize, Refusal>) -> MoultWriting {
+        match answer {
+            Ok(octets) => MoultWriting {
+                number: 0,
+                place: 0,
+                octets,
+            },
+            Err(refusal) => MoultWriting {
+                number: number_of(refusal),
+                place: refusal.place,
+                octets: 0,
+            },
+        }
+    }
+}
+
+impl From<Result<Ticks, Refusal>> for MoultTicks {
+    ghost from_gives = { λ answer time. time ≡ ticks_of (report_of (ticks_in 0) answer) };
+
+    fn from(answer: Result<Ticks, Refusal>) -> MoultTicks {
+        match answer {
+            Ok(ticks) => MoultTicks {
+                number: 0,
+                place: 0,
+                ticks: ticks.0,
+            },
+            Err(refusal) => MoultTicks {
+                number: number_of(refusal),
+                place: refusal.place,
+                ticks: 0,
+            },
+        }
+    }
+}
+
+impl From<Result<Millis, Refusal>> for MoultMillis {
+    ghost from_gives = { λ answer time. time ≡ millis_of (report_of (millis_in 0) answer) };
+
+    fn from(answer: Result<Millis, Refusal>) -> MoultMillis {
+        match answer {
+            Ok(millis) => MoultMillis {
+                number: 0,
+                place: 0,
+                millis: millis.0,
+            },
+            Err(refusal) => MoultMillis {
+                number: number_of(refusal),
+                place: refusal.place,
+                millis: 0,
+            },
+        }
+    }
+}
+
+impl From<Settings> for MoultSettings {
+    ghost from_gives = { λ settings given. given ≡ settings_of settings };
+
+    fn from(settings: Settings) -> MoultSettings {
+        MoultSettings {
+            first: settings.first,
+            second: settings.second,
+            third: settings.third,
+            tcmax: settings.tcmax,
+        }
+    }
+}
+
+impl From<Result<Settings, Refusal>> for MoultParsed {
+    ghost from_gives = { λ answer parsed. parsed ≡ parsed_of (report_of no_settings answer) };
+
+    fn from(answer: Result<Settings, Refusal>) -> MoultParsed {
+        match answer {
+            Ok(settings) => MoultParsed {
+                number: 0,
+                place: 0,
+                settings: settings.into(),
+            },
+            Err(refusal) => MoultParsed {
+                number: number_of(refusal),
+                place: refusal.place,
+                settings: MoultSettings {
+                    first: 0,
+                    second: 0,
+                    third: 0,
+                    tcmax: 0,
+                },
+            },
+        }
+    }
+}
+
+// No entry: the journal's end where number and place are 0, else a refusal.
+fn no_entry(number: u32, place: usize) -> MoultEntry
+    ensures { result ≡ record { number = number; entries = 0; place = place; ticks = 0; source = 0; start = 0; next = 0 } }
+{
+    MoultEntry {
+        number,
+        entries: 0,
+        place,
+        ticks: 0,
+        source: 0,
+        start: 0,
+        next: 0,
+    }
+}
+
+impl From<Result<Option<Entry>, Refusal>> for MoultEntry {
+    ghost from_gives = { λ answer entry. entry ≡ entry_of (standing_report answer) };
+
+    fn from(answer: Result<Option<Entry>, Refusal>) -> MoultEntry {
+        match answer {
+            Ok(Some(entry)) => MoultEntry {
+                number: 0,
+                entries: 1,
+                place: 0,
+                ticks: entry.ticks,
+                source: entry.source,
+                start: entry.start,
+                next: entry.next,
+            },
+            Ok(None) => no_entry(0, 0),
+            Err(refusal) => no_entry(number_of(refusal), refusal.place),
+        }
+    }
+}
+
+impl From<Result<RowNumbers, Refusal>> for MoultRow {
+    ghost from_gives = { λ answer row. row ≡ row_of (report_of (row_numbers 0 0) answer) };
+
+    fn from(answer: Result<RowNumbers, Refusal>) -> MoultRow {
+        match answer {
+            Ok(numbers) => MoultRow {
+                number: 0,
+                kind: numbers.kind,
+                tc: numbers.tc,
+                place: 0,
+            },
+            Err(refusal) => MoultRow {
+                number: number_of(refusal),
+                kind: 0,
+                tc: 0,
+                place: refusal.place,
+            },
+        }
+    }
+}
+
+impl From<Result<usize, Refusal>> for MoultStart {
+    ghost from_gives = { λ answer start. start ≡ start_of (report_of 0 answer) };
+
+    fn from(answer: Result<usize, Refusal>) -> MoultStart {
+        match answer {
+            Ok(start) => MoultStart {
+                number: 0,
+                place: 0,
+                start,
+            },
+            Err(refusal) => MoultStart {
+                number: number_of(refusal),
+                place: refusal.place,
+                start: 0,
+            },
+        }
+    }
+}
+
+// A span of the payload.
+impl From<Span> for MoultPart {
+    ghost from_gives = { λ span part. part ≡ record { stand_in = 0; start = span.start; length = span.length } };
+
+    fn from(span: Span) -> MoultPart {
+        MoultPart {
+            stand_in: 0,
+            start: span.start,
+            length: span.length,
+        }
+    }
+}
+
+// What an operation on a packet record answered, and the record behind it.
+fn changed(answer: Result<(), Refusal>, after: Record) -> MoultChange
+    ensures { result ≡ change_of (change answer after) }
+{
+    let (number, place) = match answer {
+        Ok(()) => (0, 0),
+        Err(refusal) => (number_of(refusal), refusal.place),
+    };
+    MoultChange {
+        number,
+        place,
+        after,
+    }
+}
+
+// ---- what a C host calls. (That there is each function with and without a session, and a struct for each answer, is the C interface.)
 
 // The library's version.
 #[unsafe(no_mangle)]
@@ -146,27 +379,15 @@ pub extern "C" fn moult_version() -> u32
 }
 
 // The session that a host's two numbers say; the rate is not looked at where framing is not agreed.
+#[tactic(auto, unfolding(crate::specs::Structs::session_of))]
 fn session_of(agreed: u32, rate: u32) -> Session
     ensures { result ≡ session_of agreed rate }
 {
     if agreed == 0 {
-        return Session::NotAgreed;
+        Session::NotAgreed
+    } else {
+        Session::Agreed(rate)
     }
-    Session::Agreed(rate)
-}
-
-// The octets of the body of a row of this kind, if its TC is legal; else 0.
-fn body_octets(kind: Kind, tc: u16) -> usize
-    ensures { result ≡ body_octets_of (some kind) tc }
-{
-    let shape = wire::shape_of(Framing::Unframed, Row { kind, tc });
-    if shape.tc < shape.entry.least {
-        return 0;
-    }
-    if shape.entry.most < shape.tc {
-        return 0;
-    }
-    shape.body
 }
 
 // The octets of the body of a row: 0 where no frame has such a row, since no body has 0 octets.
@@ -174,11 +395,14 @@ fn body_octets(kind: Kind, tc: u16) -> usize
 pub extern "C" fn moult_body_octets(kind: u16, tc: u16) -> usize
     ensures { result ≡ body_octets_of (kind_of kind) tc }
 {
-    let known = wire::kind_of(kind);
-    match known {
-        Known::Unknown => 0,
-        Known::Is(found) => body_octets(found, tc),
+    let Ok(kind) = Kind::try_from(kind) else {
+        return 0;
+    };
+    let shape = wire::shape_of(Framing::Unframed, Row { kind, tc });
+    if shape.tc < shape.entry.least || shape.entry.most < shape.tc {
+        return 0;
     }
+    shape.body
 }
 
 // The host's count: the number of frames, or minus the number of the refusal. Only an empty payload is 0.
@@ -186,35 +410,9 @@ pub extern "C" fn moult_body_octets(kind: u16, tc: u16) -> usize
 pub extern "C" fn moult_count(payload: &[u8]) -> i32
     ensures { Counted payload.now result }
 {
-    let walked = wire::walk(Framing::Unframed, payload);
-    match walked {
-        Walked::Refused(refusal) => 0 - (refusal.number as i32),
-        Walked::Whole(summary) => summary.frames as i32,
-    }
-}
-
-// Reads a payload into rows and bodies, in a session.
-fn read_in(session: Session, payload: &[u8], rows: &mut [u16], bodies: &mut [u8]) -> MoultReading
-    ensures { HostReads session payload.now rows.old bodies.old result rows.new bodies.new }
-{
-    let answer = reader::read(session, payload, rows, bodies);
-    match answer {
-        Reading::Read(summary) => MoultReading {
-            number: 0,
-            rate: summary.rate,
-            place: 0,
-            rows: summary.frames,
-            octets: summary.octets,
-            ticks: summary.ticks as usize,
-        },
-        Reading::Refused(refusal) => MoultReading {
-            number: refusal.number as u32,
-            rate: 0,
-            place: refusal.place,
-            rows: 0,
-            octets: 0,
-            ticks: 0,
-        },
+    match wire::walk(Framing::Unframed, payload) {
+        Ok(summary) => summary.frames as i32,
+        Err(refusal) => 0 - i32::from(u8::from(refusal.reason)),
     }
 }
 
@@ -223,7 +421,7 @@ fn read_in(session: Session, payload: &[u8], rows: &mut [u16], bodies: &mut [u8]
 pub extern "C" fn moult_read(payload: &[u8], rows: &mut [u16], bodies: &mut [u8]) -> MoultReading
     ensures { HostReads NotAgreed payload.now rows.old bodies.old result rows.new bodies.new }
 {
-    read_in(Session::NotAgreed, payload, rows, bodies)
+    MoultReading::from(reader::read(Session::NotAgreed, payload, rows, bodies))
 }
 
 // The same in a session.
@@ -237,40 +435,7 @@ pub extern "C" fn moult_read_session(
 ) -> MoultReading
     ensures { HostReads (session_of agreed rate) payload.now rows.old bodies.old result rows.new bodies.new }
 {
-    read_in(session_of(agreed, rate), payload, rows, bodies)
-}
-
-// So many octets, or fields, were written.
-fn written(octets: usize) -> MoultWriting
-    ensures { result ≡ writing_of (accepted octets) }
-{
-    MoultWriting {
-        number: 0,
-        place: 0,
-        octets,
-    }
-}
-
-// Nothing was written.
-fn not_written(refusal: Refusal) -> MoultWriting
-    ensures { result ≡ writing_of (refused_with 0 refusal) }
-{
-    MoultWriting {
-        number: refusal.number as u32,
-        place: refusal.place,
-        octets: 0,
-    }
-}
-
-// Writes rows and bodies as a payload, in a session.
-fn write_in(session: Session, rows: &[u16], bodies: &[u8], out: &mut [u8]) -> MoultWriting
-    ensures { HostWrites session rows.now bodies.now out.old result out.new }
-{
-    let answer = writer::write(session, rows, bodies, out);
-    match answer {
-        Writing::Written(octets) => written(octets),
-        Writing::Refused(refusal) => not_written(refusal),
-    }
+    MoultReading::from(reader::read(session_of(agreed, rate), payload, rows, bodies))
 }
 
 // Writes rows and bodies as a payload.
@@ -278,7 +443,7 @@ fn write_in(session: Session, rows: &[u16], bodies: &[u8], out: &mut [u8]) -> Mo
 pub extern "C" fn moult_write(rows: &[u16], bodies: &[u8], out: &mut [u8]) -> MoultWriting
     ensures { HostWrites NotAgreed rows.now bodies.now out.old result out.new }
 {
-    write_in(Session::NotAgreed, rows, bodies, out)
+    MoultWriting::from(writer::write(Session::NotAgreed, rows, bodies, out))
 }
 
 // The same in a session.
@@ -292,26 +457,7 @@ pub extern "C" fn moult_write_session(
 ) -> MoultWriting
     ensures { HostWrites (session_of agreed rate) rows.now bodies.now out.old result out.new }
 {
-    write_in(session_of(agreed, rate), rows, bodies, out)
-}
-
-// The ticks of a payload's frames, in a session.
-fn ticks_in(session: Session, payload: &[u8]) -> MoultTicks
-    ensures { HostTimes session payload.now result }
-{
-    let answer = clock::packet_ticks(session, payload);
-    match answer {
-        PacketTicks::Lasts(ticks) => MoultTicks {
-            number: 0,
-            place: 0,
-            ticks: ticks.0,
-        },
-        PacketTicks::Refused(refusal) => MoultTicks {
-            number: refusal.number as u32,
-            place: refusal.place,
-            ticks: 0,
-        },
-    }
+    MoultWriting::from(writer::write(session_of(agreed, rate), rows, bodies, out))
 }
 
 // The ticks of a payload's frames.
@@ -319,7 +465,7 @@ fn ticks_in(session: Session, payload: &[u8]) -> MoultTicks
 pub extern "C" fn moult_packet_ticks(payload: &[u8]) -> MoultTicks
     ensures { HostTimes NotAgreed payload.now result }
 {
-    ticks_in(Session::NotAgreed, payload)
+    MoultTicks::from(clock::packet_ticks(Session::NotAgreed, payload))
 }
 
 // The same in a session.
@@ -327,7 +473,7 @@ pub extern "C" fn moult_packet_ticks(payload: &[u8]) -> MoultTicks
 pub extern "C" fn moult_packet_ticks_session(agreed: u32, rate: u32, payload: &[u8]) -> MoultTicks
     ensures { HostTimes (session_of agreed rate) payload.now result }
 {
-    ticks_in(session_of(agreed, rate), payload)
+    MoultTicks::from(clock::packet_ticks(session_of(agreed, rate), payload))
 }
 
 // The ptime of a number of frames at a rate, in milliseconds.
@@ -335,39 +481,19 @@ pub extern "C" fn moult_packet_ticks_session(agreed: u32, rate: u32, payload: &[
 pub extern "C" fn moult_ptime(rate: u32, frames: usize) -> MoultMillis
     ensures { HostPtime rate frames result }
 {
-    let answer = clock::ptime(rate, frames);
-    match answer {
-        PacketMillis::Lasts(millis) => MoultMillis {
-            number: 0,
-            place: 0,
-            millis: millis.0,
-        },
-        PacketMillis::Refused(refusal) => MoultMillis {
-            number: refusal.number as u32,
-            place: refusal.place,
-            millis: 0,
-        },
-    }
+    MoultMillis::from(clock::ptime(rate, frames))
 }
 
 // Where a row's augmentation stands in the payload, in a session; start 0 and length 0 where there is none.
 fn augmentation_in(session: Session, payload: &[u8], row: usize) -> MoultPart
     ensures { HostAugments session payload.now row result }
 {
-    let location = views::locate(session, payload, row);
-    match location {
-        Location::Missing => MoultPart {
+    match views::locate(session, payload, row) {
+        Some(location) => location.augmentation.into(),
+        None => MoultPart {
             stand_in: 0,
             start: 0,
             length: 0,
-        },
-        Location::At {
-            frame: _,
-            augmentation: span,
-        } => MoultPart {
-            stand_in: 0,
-            start: span.start,
-            length: span.length,
         },
     }
 }
@@ -397,20 +523,12 @@ pub extern "C" fn moult_augmentation_session(
 fn frame_or_in(session: Session, payload: &[u8], row: usize, stand_in: &[u8]) -> MoultPart
     ensures { HostShows session payload.now row stand_in.now result }
 {
-    let location = views::locate(session, payload, row);
-    match location {
-        Location::Missing => MoultPart {
+    match views::locate(session, payload, row) {
+        Some(location) => location.frame.into(),
+        None => MoultPart {
             stand_in: 1,
             start: 0,
             length: stand_in.len(),
-        },
-        Location::At {
-            frame: span,
-            augmentation: _,
-        } => MoultPart {
-            stand_in: 0,
-            start: span.start,
-            length: span.length,
         },
     }
 }
@@ -442,29 +560,7 @@ pub extern "C" fn moult_frame_or_session(
 pub extern "C" fn moult_settings_read(text: &[u8]) -> MoultParsed
     ensures { HostParses text.now result }
 {
-    let answer = fmtp::read(text);
-    match answer {
-        Parsed::Accepted(s) => MoultParsed {
-            number: 0,
-            place: 0,
-            settings: MoultSettings {
-                first: s.first,
-                second: s.second,
-                third: s.third,
-                tcmax: s.tcmax,
-            },
-        },
-        Parsed::Refused(refusal) => MoultParsed {
-            number: refusal.number as u32,
-            place: refusal.place,
-            settings: MoultSettings {
-                first: 0,
-                second: 0,
-                third: 0,
-                tcmax: 0,
-            },
-        },
-    }
+    MoultParsed::from(fmtp::read(text))
 }
 
 // Writes settings as a setting text.
@@ -478,17 +574,13 @@ pub extern "C" fn moult_settings_write(
 ) -> MoultWriting
     ensures { HostWritesSettings (record { first = first; second = second; third = third; tcmax = tcmax }) out.old result out.new }
 {
-    let settings = fmtp::Settings {
+    let settings = Settings {
         first,
         second,
         third,
         tcmax,
     };
-    let answer = fmtp::write(settings, out);
-    match answer {
-        Written::Octets(octets) => written(octets),
-        Written::Refused(refusal) => not_written(refusal),
-    }
+    MoultWriting::from(fmtp::write(settings, out))
 }
 
 // Unpacks the fields of a 600 bps body; `octets` of the answer is the number of fields.
@@ -496,11 +588,7 @@ pub extern "C" fn moult_settings_write(
 pub extern "C" fn moult_unpack(mode: u8, body: &[u8], fields: &mut [u16]) -> MoultWriting
     ensures { HostUnpacks mode body.now fields.old result fields.new }
 {
-    let answer = fields::unpack(mode, body, fields);
-    match answer {
-        Unpacked::Fields(count) => written(count),
-        Unpacked::Refused(refusal) => not_written(refusal),
-    }
+    MoultWriting::from(fields::unpack(mode, body, fields))
 }
 
 // Packs fields into a 600 bps body.
@@ -508,26 +596,7 @@ pub extern "C" fn moult_unpack(mode: u8, body: &[u8], fields: &mut [u16]) -> Mou
 pub extern "C" fn moult_pack(mode: u8, fields: &[u16], out: &mut [u8]) -> MoultWriting
     ensures { HostPacks mode fields.now out.old result out.new }
 {
-    let answer = fields::pack(mode, fields, out);
-    match answer {
-        Packed::Octets(octets) => written(octets),
-        Packed::Refused(refusal) => not_written(refusal),
-    }
-}
-
-// No entry: the journal's end where number and place are 0, else a refusal.
-fn no_entry(number: u8, place: usize) -> MoultEntry
-    ensures { result ≡ entry_of (nothing number place) }
-{
-    MoultEntry {
-        number: number as u32,
-        entries: 0,
-        place,
-        ticks: 0,
-        source: 0,
-        start: 0,
-        next: 0,
-    }
+    MoultWriting::from(fields::pack(mode, fields, out))
 }
 
 // The entry that begins at an index of a journal.
@@ -535,25 +604,7 @@ fn no_entry(number: u8, place: usize) -> MoultEntry
 pub extern "C" fn moult_journal_entry_at(octets: &[u8], at: usize) -> MoultEntry
     ensures { HostEntry octets.now at result }
 {
-    let answer = journal::entry_at(octets, at);
-    match answer {
-        Standing::Entry {
-            ticks,
-            source,
-            start,
-            next,
-        } => MoultEntry {
-            number: 0,
-            entries: 1,
-            place: 0,
-            ticks,
-            source,
-            start,
-            next,
-        },
-        Standing::End => no_entry(0, 0),
-        Standing::Refused(refusal) => no_entry(refusal.number, refusal.place),
-    }
+    MoultEntry::from(journal::entry_at(octets, at))
 }
 
 // Writes an entry of a journal.
@@ -566,22 +617,7 @@ pub extern "C" fn moult_journal_write_entry(
 ) -> MoultWriting
     ensures { HostWritesEntry (record { ticks = ticks; source = source; payload = payload.now }) out.old result out.new }
 {
-    let answer = journal::write_entry(ticks, source, payload, out);
-    match answer {
-        journal::Written::Octets(octets) => written(octets),
-        journal::Written::Refused(refusal) => not_written(refusal),
-    }
-}
-
-fn changed(change: Change) -> MoultChange
-    ensures { result ≡ change_of change }
-{
-    let after = change.after;
-    MoultChange {
-        number: change.refusal.number as u32,
-        place: change.refusal.place,
-        after,
-    }
+    MoultWriting::from(journal::write_entry(ticks, source, payload, out))
 }
 
 // The packet record of no rows.
@@ -589,7 +625,7 @@ fn changed(change: Change) -> MoultChange
 pub extern "C" fn moult_record_empty() -> Record
     ensures { result ≡ record_of [] }
 {
-    record::empty()
+    Record::empty()
 }
 
 // Takes a row at the end of a packet record.
@@ -597,7 +633,9 @@ pub extern "C" fn moult_record_empty() -> Record
 pub extern "C" fn moult_record_push(packet: Record, kind: u16, tc: u16) -> MoultChange
     ensures { HostChanges (to_push kind tc) packet result }
 {
-    changed(record::push(packet, kind, tc))
+    let mut after = packet;
+    let answer = after.push(kind, tc);
+    changed(answer, after)
 }
 
 // Drops the last row of a packet record.
@@ -605,7 +643,9 @@ pub extern "C" fn moult_record_push(packet: Record, kind: u16, tc: u16) -> Moult
 pub extern "C" fn moult_record_pop(packet: Record) -> MoultChange
     ensures { HostChanges to_pop packet result }
 {
-    changed(record::pop(packet))
+    let mut after = packet;
+    let answer = after.pop();
+    changed(answer, after)
 }
 
 // Replaces a row of a packet record.
@@ -618,7 +658,9 @@ pub extern "C" fn moult_record_replace(
 ) -> MoultChange
     ensures { HostChanges (to_replace row kind tc) packet result }
 {
-    changed(record::replace(packet, row, kind, tc))
+    let mut after = packet;
+    let answer = after.replace(row, kind, tc);
+    changed(answer, after)
 }
 
 // How many rows a packet record has.
@@ -626,7 +668,7 @@ pub extern "C" fn moult_record_replace(
 pub extern "C" fn moult_record_rows(packet: Record) -> usize
     ensures { Asked (λ (p : Record). p.rows) length packet result }
 {
-    record::rows_of(packet)
+    packet.rows()
 }
 
 // The octets of its rows on the wire.
@@ -634,7 +676,7 @@ pub extern "C" fn moult_record_rows(packet: Record) -> usize
 pub extern "C" fn moult_record_octets(packet: Record) -> usize
     ensures { Asked (λ (p : Record). p.octets) (sum_of wire_octets) packet result }
 {
-    record::octets_of(packet)
+    packet.octets()
 }
 
 // The ticks of its rows.
@@ -650,21 +692,7 @@ pub extern "C" fn moult_record_ticks(packet: Record) -> u32
 pub extern "C" fn moult_record_row(packet: Record, row: usize) -> MoultRow
     ensures { HostRow row packet result }
 {
-    let answer = record::row_at(packet, row);
-    match answer {
-        RowAsked::Is(numbers) => MoultRow {
-            number: 0,
-            kind: numbers.kind,
-            tc: numbers.tc,
-            place: 0,
-        },
-        RowAsked::Refused(refusal) => MoultRow {
-            number: refusal.number as u32,
-            kind: 0,
-            tc: 0,
-            place: refusal.place,
-        },
-    }
+    MoultRow::from(packet.row(row))
 }
 
 // Where a row of a packet record starts on the wire.
@@ -672,17 +700,5 @@ pub extern "C" fn moult_record_row(packet: Record, row: usize) -> MoultRow
 pub extern "C" fn moult_record_start(packet: Record, row: usize) -> MoultStart
     ensures { HostStart row packet result }
 {
-    let answer = record::start_at(packet, row);
-    match answer {
-        StartAsked::At(start) => MoultStart {
-            number: 0,
-            place: 0,
-            start,
-        },
-        StartAsked::Refused(refusal) => MoultStart {
-            number: refusal.number as u32,
-            place: refusal.place,
-            start: 0,
-        },
-    }
+    MoultStart::from(packet.start(row))
 }

@@ -1,12 +1,7 @@
--- Of two numbers the one is below the other or not.
-use mathlib.Core.Logic.{◌⊎◌, inl, inr}
+-- Of two numbers the one is below the other or not, for callers: std's `cases_lt`.
+use mathlib.Core.Logic.{◌⊎◌}
 use Prim.Native.Nat.{ℕ, ◌≤◌, ◌<◌}
-use native.Mathlib.Omega.{arith}
-use native.Mathlib.Decide.{dec_le}
+use Rattle.std.proofs.lemmas.Bool.{cases_lt}
 
 pub below_or : (a b : ℕ) → (a < b) ⊎ (b ≤ a)
-below_or a b = go (dec_le b a)
-  where
-    go : Dec (b ≤ a) → (a < b) ⊎ (b ≤ a)
-    go (yes h) = inr h
-    go (no h) = inl (omega arith)
+below_or = cases_lt

@@ -1,4 +1,3 @@
-pub mod FrameBodies
 pub mod Outcomes
 pub mod FillLoop
 pub mod Demands

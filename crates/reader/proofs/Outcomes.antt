@@ -6,6 +6,7 @@ use native.Mathlib.Omega.{arith}
 use lib.ListN.{length}
 use borrow.Author.Tests.{lt-ltb, le-ltb}
 use Rattle.refusal.specs.Report.{refusal}
+use Rattle.refusal.specs.declared.Reason.{Reason}
 use Rattle.wire.specs.Frame.{Frame, Legal, octets_of, bodies_of}
 use Rattle.wire.specs.Walk.{at, refused, read_of}
 use Rattle.wire.specs.declared.Framing.{Framing}
@@ -15,7 +16,7 @@ use Rattle.reader.specs.Promise.{Room}
 
 module _ (fr : Framing) (p r b : List ℕ) where
   -- the walk refuses
-  pub read_refused : {n place : ℕ} {behind : List Frame} → read_of fr p ≡ refused n place behind → read_into fr p r b ≡ kept r b (refusal n place)
+  pub read_refused : {x : Reason} {place : ℕ} {behind : List Frame} → read_of fr p ≡ refused x place behind → read_into fr p r b ≡ kept r b (refusal x place)
   unfolding outcome
   read_refused e = ap (outcome r b) e
 

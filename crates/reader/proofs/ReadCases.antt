@@ -1,95 +1,74 @@
--- What `read_framed` and `read` promise, where their code returns.
+-- What `read` promises, where its code returns.
 use mathlib.Core.Path.{◌≡◌, refl, sym, ap, ◌∙◌}
 use mathlib.Core.List.{List}
-use mathlib.Core.Option.{none, some}
 use Prim.Native.Nat.{ℕ, ◌/◌, ◌≤◌, ◌<◌}
 use native.Mathlib.Omega.{arith}
 use lib.ListN.{length}
-use Rattle.refusal.specs.Report.{refusal}
+use Rattle.std.specs.Prelude.{Some, Result, Ok, Err}
+use Rattle.refusal.specs.Report.{refusal, report_of}
+use Rattle.refusal.specs.declared.Reason.TheVariants.{NumbersTooShort, OctetsTooShort, Unknown}
 use Rattle.refusal.specs.declared.Refusal.{Refusal}
 use Rattle.octets.specs.Octet.{Octets}
 use Rattle.wire.specs.Frame.{framing_of, bodies_of}
-use Rattle.wire.specs.Walk.{read_of}
-use Rattle.wire.specs.Answers.{known_framing, walked_of}
+use Rattle.wire.specs.Answers.{FramingKnown, Walks, summary_of, nothing}
 use Rattle.wire.specs.declared.Session.{Session}
 use Rattle.wire.specs.declared.Framing.{Framing}
-use Rattle.wire.specs.declared.KnownFraming.{KnownFraming}
-use Rattle.wire.specs.declared.KnownFraming.TheVariants as framing
 use Rattle.wire.specs.declared.Summary.{Summary}
-use Rattle.wire.specs.declared.Walked.{Walked}
-use Rattle.wire.specs.declared.Walked.TheVariants as walked
 use Rattle.wire.proofs.Meaning.{Accepted, went, stopped}
-use Rattle.wire.proofs.Sessions.{unknown_framing, known_framing_lem, no_framing, one_framing}
-use Rattle.reader.specs.Reading.{Outcome, kept, handed_out, few_numbers, few_octets, read_into, reading_report}
+use Rattle.wire.proofs.Sessions.{known_framing_lem, one_framing}
+use Rattle.reader.specs.Reading.{Outcome, kept, handed_out, read_into}
 use Rattle.reader.specs.Promise.{Reads}
-use Rattle.reader.specs.Filling.{Fillable, CameTo}
-use Rattle.reader.specs.declared.Reading.{Reading}
-use Rattle.reader.specs.declared.Reading.TheVariants.{Read, Refused}
+use Rattle.reader.specs.Filling.{Fillable}
 use Rattle.reader.proofs.Outcomes.{read_refused, read_few_numbers, read_few_octets, read_whole}
 use Rattle.reader.proofs.Demands.{demand}
 
--- ---- in a session of known framing
+-- the session's framing is fr
+module _ (ses : Session) (fr : Framing) (is : FramingKnown ses (Ok fr)) (p r b : List ℕ) (o : Octets p) where
+  known : framing_of ses ≡ Some fr
+  known = known_framing_lem ses (refusal Unknown 0) is.answer fr refl
 
-module _ (fr : Framing) (p r b : List ℕ) (o : Octets p) where
-  -- the answer and the lists are those of an outcome
-  came_to : (x : Outcome) → read_into fr p r b ≡ x → {a : Reading} → a ≡ x.answer → CameTo (read_into fr p r b) a x.rows x.bodies
-  came_to x e ea = rw e (record { answer = ea; rows = refl; bodies = refl })
+  -- the answer and the lists are those of reading
+  reads : {a : Result Summary Refusal} {r' b' : List ℕ} → a ≡ (read_into fr p r b).answer → r' ≡ (read_into fr p r b).rows → b' ≡ (read_into fr p r b).bodies → Reads ses p r b a r' b'
+  reads ea er eb = record {
+    answer = rw known ea;
+    numbers = rw known (ap (report_of nothing) ea);
+    rows = rw known er;
+    bodies = rw known eb;
+    demand = λ gr h. rw (one_framing ses known h, ea, er, eb) (demand fr p r b o);
+  }
 
-  -- s is what the walk answered
-  module _ {s : Walked} (is : s ≡ walked_of (read_of fr p)) where
-    pub case_refused : (x : Refusal) → s ≡ walked.Refused x → CameTo (read_into fr p r b) (Refused x) r b
-    case_refused x e = came_to (kept r b x) (read_refused fr p r b (stopped fr p o is x e).reads) refl
+  refused : (x : Refusal) → read_into fr p r b ≡ kept r b x → Reads ses p r b (Err x) r b
+  refused x e = let q = sym e in reads (ap (λ (y : Outcome). y.answer) q) (ap (λ (y : Outcome). y.rows) q) (ap (λ (y : Outcome). y.bodies) q)
 
-    module _ (x : Summary) (e : s ≡ walked.Whole x) where
-      abbrev w : Accepted fr p
-      w = (went fr p o is x e).0
+  -- the walk's answer
+  pub case_refused : (x : Refusal) → Walks fr p (Err x) → Reads ses p r b (Err x) r b
+  case_refused x w = refused x (read_refused fr p r b (stopped fr p o w.answer x refl).reads)
 
-      frames : x.frames ≡ length w.fs
-      frames = ap (λ (y : Summary). y.frames) (went fr p o is x e).1
+  module _ (s : Summary) (w : Walks fr p (Ok s)) where
+    abbrev a : Accepted fr p
+    a = (went fr p o w.answer s refl).0
 
-      octets : x.octets ≡ length (bodies_of w.fs)
-      octets = ap (λ (y : Summary). y.octets) (went fr p o is x e).1
+    holds : s ≡ summary_of a.fs
+    holds = (went fr p o w.answer s refl).1
 
-      pub case_few_numbers : length r / 2 < x.frames → CameTo (read_into fr p r b) (Refused (refusal 9 x.frames)) r b
-      case_few_numbers h = came_to (few_numbers r b w.fs) (read_few_numbers fr p r b w.reads (omega (arith, frames))) (ap (λ (n : ℕ). Refused (refusal 9 n)) frames)
+    frames : s.frames ≡ length a.fs
+    frames = ap (λ (x : Summary). x.frames) holds
 
-      module _ (h : x.frames ≤ length r / 2) where
-        pub case_few_octets : length b < x.octets → CameTo (read_into fr p r b) (Refused (refusal 10 x.octets)) r b
-        case_few_octets l =
-            came_to (few_octets r b w.fs) (read_few_octets fr p r b w.reads (omega (arith, frames)) (omega (arith, octets)))
-            (ap (λ (n : ℕ). Refused (refusal 10 n)) octets)
+    octets : s.octets ≡ length (bodies_of a.fs)
+    octets = ap (λ (x : Summary). x.octets) holds
 
-        module _ (l : x.octets ≤ length b) where
-          pub case_fillable : Fillable fr p x.frames x.octets (length r) (length b)
-          case_fillable = record { fs = w.fs; legal = w.legal; gives = w.gives; frames = frames; octets = octets; rows = omega arith; bodies = l }
+    pub case_few_numbers : length r / 2 < s.frames → Reads ses p r b (Err (refusal NumbersTooShort s.frames)) r b
+    case_few_numbers h = refused (refusal NumbersTooShort s.frames) (rw frames (read_few_numbers fr p r b a.reads (omega (arith, frames))))
 
-          pub case_read : {r' b' : List ℕ} → r' ≡ (read_into fr p r b).rows → b' ≡ (read_into fr p r b).bodies → CameTo (read_into fr p r b) (Read x) r' b'
-          case_read er eb =
-              let q : read_into fr p r b ≡ handed_out r b w.fs = read_whole fr p r b w.reads (omega (arith, frames)) (omega (arith, octets)) in
-              record { answer = ap Read (went fr p o is x e).1 ∙ ap (λ (y : Outcome). y.answer) (sym q); rows = er; bodies = eb }
+    module _ (h : s.frames ≤ length r / 2) where
+      pub case_few_octets : length b < s.octets → Reads ses p r b (Err (refusal OctetsTooShort s.octets)) r b
+      case_few_octets l = refused (refusal OctetsTooShort s.octets) (rw octets (read_few_octets fr p r b a.reads (omega (arith, frames)) (omega (arith, octets))))
 
--- ---- in any session
+      module _ (l : s.octets ≤ length b) where
+        pub case_fillable : Fillable fr p s (length r) (length b)
+        case_fillable = record { fs = a.fs; legal = a.legal; gives = a.gives; holds = holds; rows = omega arith; bodies = l }
 
--- k is what the session's framing is known to be
-module _ (ses : Session) (p r b : List ℕ) {k : KnownFraming} (is : k ≡ known_framing (framing_of ses)) where
-  pub case_unknown : k ≡ framing.Unknown → Reads ses p r b (Refused (refusal 12 0)) r b
-  case_unknown e =
-      let q : framing_of ses ≡ none = unknown_framing ses is e in
-      record {
-        answer = rw q refl;
-        numbers = rw q refl;
-        rows = rw q refl;
-        bodies = rw q refl;
-        demand = λ fr h. absurd (no_framing ses q h);
-      }
-
-  pub case_known : Octets p → (fr : Framing) → k ≡ framing.Is fr → {a : Reading} {r' b' : List ℕ} → CameTo (read_into fr p r b) a r' b' → Reads ses p r b a r' b'
-  case_known o fr e c =
-      let q : framing_of ses ≡ some fr = known_framing_lem ses is fr e in
-      record {
-        answer = rw q c.answer;
-        numbers = rw q (ap reading_report c.answer);
-        rows = rw q c.rows;
-        bodies = rw q c.bodies;
-        demand = λ gr h. rw (one_framing ses q h, c.answer, c.rows, c.bodies) (demand fr p r b o);
-      }
+        pub case_read : {r' b' : List ℕ} → r' ≡ (read_into fr p r b).rows → b' ≡ (read_into fr p r b).bodies → Reads ses p r b (Ok s) r' b'
+        case_read =
+            let q : read_into fr p r b ≡ handed_out r b a.fs = read_whole fr p r b a.reads (omega (arith, frames)) (omega (arith, octets)) in
+            reads (ap Ok holds ∙ ap (λ (x : Outcome). x.answer) (sym q))

@@ -1,12 +1,13 @@
 -- For callers: what `Reads` says of a payload that was read, of one that was refused, and of the octets of a legal sequence.
 use mathlib.Core.Path.{◌≡◌, refl, sym, ap, ◌∙◌}
 use mathlib.Core.List.{List, [], ◌∷◌, ◌++◌}
-use mathlib.Core.Option.{Option, none, some}
 use Prim.Native.Nat.{ℕ, ◌*◌}
 use native.Mathlib.Omega.{arith}
 use lib.ListN.{length, take, drop}
 use lib.Seq.{take_at}
-use Rattle.refusal.specs.Report.{Report, refusal}
+use Rattle.std.specs.Prelude.{Option, None, Some, Result, Ok, Err}
+use Rattle.refusal.specs.Report.{Report}
+use Rattle.refusal.specs.Numbers.{number_of}
 use Rattle.refusal.specs.declared.Refusal.{Refusal}
 use Rattle.wire.specs.Frame.{Frame, framing_of, Legal, octets_of, rows_of, numbers_of, bodies_of}
 use Rattle.wire.specs.Answers.{summary_of}
@@ -14,11 +15,10 @@ use Rattle.wire.specs.declared.Session.{Session}
 use Rattle.wire.specs.declared.Framing.{Framing}
 use Rattle.wire.specs.declared.Row.{Row}
 use Rattle.wire.specs.declared.Summary.{Summary}
+use Rattle.refusal.proofs.NumberLaws.{number_of-least}
 use Rattle.wire.proofs.Complete.{length_rows}
 use Rattle.reader.specs.Reading.{Outcome}
 use Rattle.reader.specs.Promise.{Room, Reads}
-use Rattle.reader.specs.declared.Reading.{Reading}
-use Rattle.reader.specs.declared.Reading.TheVariants.{Read, Refused}
 use Rattle.reader.proofs.Outcomes.{hands_out}
 
 -- two numbers a row
@@ -39,8 +39,8 @@ pub record WasRead (fr : Framing) (fs : List Frame) (p r b : List ℕ) (s : Summ
 
 module _ (ses : Session) {p r b r' b' : List ℕ} where
   -- in a session of known framing
-  module _ (fr : Framing) (known : framing_of ses ≡ some fr) where
-    handed : {s : Summary} → Reads ses p r b (Read s) r' b' → (fs : List Frame) → Legal fr fs → octets_of fr fs ≡ p → Room fs r b → WasRead fr fs p r b s r' b'
+  module _ (fr : Framing) (known : framing_of ses ≡ Some fr) where
+    handed : {s : Summary} → Reads ses p r b (Ok s) r' b' → (fs : List Frame) → Legal fr fs → octets_of fr fs ≡ p → Room fs r b → WasRead fr fs p r b s r' b'
     handed {s} h fs l e room =
         let d = (h.demand fr known).handed fs l e room in
         let is : s ≡ summary_of fs = ap (λ (a : Report Summary). a.value) d.numbers in
@@ -58,30 +58,24 @@ module _ (ses : Session) {p r b r' b' : List ℕ} where
         }
 
     -- what was read is a legal sequence
-    pub was_read : {s : Summary} → Reads ses p r b (Read s) r' b' → (fs : List Frame) × WasRead fr fs p r b s r' b'
+    pub was_read : {s : Summary} → Reads ses p r b (Ok s) r' b' → (fs : List Frame) × WasRead fr fs p r b s r' b'
     was_read h = let w = (h.demand fr known).accepted refl in (w.0, handed h w.0 w.1 w.2 w.3)
 
-    answered : {a : Reading} → Reads ses p r b a r' b' → (fs : List Frame) → Legal fr fs → octets_of fr fs ≡ p → Room fs r b → a ≡ Read (summary_of fs)
+    answered : {a : Result Summary Refusal} → Reads ses p r b a r' b' → (fs : List Frame) → Legal fr fs → octets_of fr fs ≡ p → Room fs r b → a ≡ Ok (summary_of fs)
     answered h fs l e room = rw known at h.answer ∙ ap (λ (x : Outcome). x.answer) (hands_out fr p r b fs l e room)
 
     -- a legal sequence is read where there is room for it
-    pub legal_read : {a : Reading} → Reads ses p r b a r' b' → (fs : List Frame) → Legal fr fs → octets_of fr fs ≡ p → Room fs r b
-        → (a ≡ Read (summary_of fs)) × WasRead fr fs p r b (summary_of fs) r' b'
+    pub legal_read : {a : Result Summary Refusal} → Reads ses p r b a r' b' → (fs : List Frame) → Legal fr fs → octets_of fr fs ≡ p → Room fs r b
+        → (a ≡ Ok (summary_of fs)) × WasRead fr fs p r b (summary_of fs) r' b'
     legal_read h fs l e room = let q = answered h fs l e room in (q, handed (rw q at h) fs l e room)
 
-    numbered : {x : Refusal} → Reads ses p r b (Refused x) r' b' → x.number ≡ 0 → ⊥
-    numbered {x} h z =
-        let w = (h.demand fr known).accepted z in
-        let e : Refused x ≡ Read (summary_of w.0) = answered h w.0 w.1 w.2 w.3 in
-        let q : ◌≡◌ {A = ℕ} 0 1 = cc in omega arith
-
   -- in any session a refusal has a number, and changes nothing
-  pub was_refused : {x : Refusal} → Reads ses p r b (Refused x) r' b' → (x.number ≡ 0 → ⊥) × (r' ≡ r) × (b' ≡ b)
+  pub was_refused : {x : Refusal} → Reads ses p r b (Err x) r' b' → (number_of x.reason ≡ 0 → ⊥) × (r' ≡ r) × (b' ≡ b)
   was_refused {x} h = go (framing_of ses) refl
     where
-      go : (f : Option Framing) → framing_of ses ≡ f → (x.number ≡ 0 → ⊥) × (r' ≡ r) × (b' ≡ b)
-      go none q =
-          let d : Refused x ≡ Refused (refusal 12 0) = rw q at h.answer in
-          let n : x ≡ refusal 12 0 = cc in
-          (λ z. omega (arith, ap (λ (y : Refusal). y.number) n), rw q at h.rows, rw q at h.bodies)
-      go (some fr) q = let n = numbered fr q h in let u = (h.demand fr q).unchanged n in (n, u.rows, u.bodies)
+      numbered : number_of x.reason ≡ 0 → ⊥
+      numbered z = omega (arith, number_of-least x.reason)
+
+      go : (f : Option Framing) → framing_of ses ≡ f → (number_of x.reason ≡ 0 → ⊥) × (r' ≡ r) × (b' ≡ b)
+      go None q = (numbered, rw q at h.rows, rw q at h.bodies)
+      go (Some fr) q = let u = (h.demand fr q).unchanged numbered in (numbered, u.rows, u.bodies)

@@ -1,15 +1,14 @@
 -- The reader's promise: the equations that fix its answer and both lent lists, and beside them what they must meet, said with `Legal` and
 -- `octets_of` alone: docs/FORMAT.md, "Legal sequences", "Rows and bodies", "Sessions".
-use Rattle.std.specs.Prelude.{◌≡◌, List, [], ◌++◌, ℕ, ◌*◌, ◌≤◌, length, drop}
-use Rattle.std.proofs.Math.Option.{some}
-use Rattle.refusal.specs.Report.{Report, accepted}
+use Rattle.std.specs.Prelude.{◌≡◌, List, [], ◌++◌, ℕ, ◌*◌, ◌≤◌, length, drop, Some, Result}
+use Rattle.refusal.specs.Report.{Report, accepted, report_of}
+use Rattle.refusal.specs.declared.Refusal.{Refusal}
 use Rattle.wire.specs.Frame.{Frame, framing_of, Legal, octets_of, rows_of, numbers_of, bodies_of}
 use Rattle.wire.specs.Answers.{summary_of, nothing}
 use Rattle.wire.specs.declared.Session.{Session}
 use Rattle.wire.specs.declared.Framing.{Framing}
 use Rattle.wire.specs.declared.Summary.{Summary}
-use Rattle.reader.specs.Reading.{read_in, reading_report}
-use Rattle.reader.specs.declared.Reading.{Reading}
+use Rattle.reader.specs.Reading.{read_in}
 
 -- "The room is too small exactly if the number list is shorter than 2n or the octet buffer shorter than m"
 abbrev pub Room : List Frame → List ℕ → List ℕ → Type 0
@@ -47,10 +46,11 @@ pub record Demand (fr : Framing) (p r b : List ℕ) (a : Report Summary) (r' b' 
   pub only_empty : a.number ≡ 0 → a.value.frames ≡ 0 → p ≡ []
 
 -- what `read` promises in the session ses of a payload p that is read into r and b: its answer a, and what the lists are then, r' and b'
-pub record Reads (ses : Session) (p r b : List ℕ) (a : Reading) (r' b' : List ℕ) : Type 0 where
+pub record Reads (ses : Session) (p r b : List ℕ) (a : Result Summary Refusal) (r' b' : List ℕ) : Type 0 where
   pub answer : a ≡ (read_in (framing_of ses) p r b).answer
-  pub numbers : reading_report a ≡ reading_report (read_in (framing_of ses) p r b).answer
+  -- a refusal "returns its number and a place, reports 0 rows and 0 octets"
+  pub numbers : report_of nothing a ≡ report_of nothing (read_in (framing_of ses) p r b).answer
   pub rows : r' ≡ (read_in (framing_of ses) p r b).rows
   pub bodies : b' ≡ (read_in (framing_of ses) p r b).bodies
   -- "The coder frames of a legal sequence are then all of that rate, and demands 2 and 3 hold for each of these three session records"
-  pub demand : (fr : Framing) → framing_of ses ≡ some fr → Demand fr p r b (reading_report a) r' b'
+  pub demand : (fr : Framing) → framing_of ses ≡ Some fr → Demand fr p r b (report_of nothing a) r' b'

@@ -3,19 +3,12 @@
 
 ghost use Rattle.std.specs.Prelude.{◌≡◌, [], ◌∷◌, ◌+◌, ◌*◌, ◌≤◌, length};
 ghost use Rattle.octets.specs.Put.{put};
-ghost use Rattle.reader.specs.Filling.{body_at, BodyFits, Fillable, CameTo};
+ghost use Rattle.reader.specs.Filling.{body_of, BodyFits, Fillable};
 ghost use Rattle.reader.specs.Reading.{read_into};
 ghost use Rattle.reader.specs.Promise.{Reads};
 
-use refusal::Refusal;
-use wire::{Ending, Framing, KnownFraming, Session, Shape, Summary, Walked};
-
-// What was handed out: frames, octets of their bodies, their rate and ticks; or the refusal.
-#[derive(Clone, Copy)]
-pub enum Reading {
-    Read(Summary),
-    Refused(Refusal),
-}
+use refusal::{Reason, Refusal};
+use wire::{Entry, Framing, Session, Summary};
 
 // The row of the frame with this index.
 fn put_row(rows: &mut [u16], index: usize, number: u16, tc: u16)
@@ -26,89 +19,57 @@ fn put_row(rows: &mut [u16], index: usize, number: u16, tc: u16)
     rows[2 * index + 1] = tc;
 }
 
-// The body of the frame whose octets start there in the payload: the rate code bits are cleared, the count is left off.
-fn put_body(payload: &[u8], start: usize, shape: Shape, bodies: &mut [u8], at: usize)
-    requires { BodyFits payload.now start shape (length bodies.old) at }
-    ensures { bodies.new ≡ put bodies.old at (body_at payload.now start shape) }
+// The body of a frame of this entry from its octets on the wire without the count: the rate code bits are cleared.
+fn put_body(octets: &[u8], entry: Entry, body: &mut [u8])
+    requires { BodyFits octets.now entry (length body.old) }
+    ensures { body.new ≡ body_of octets.now entry }
 {
-    let len = shape.body;
-    let last = shape.entry.octets - 1;
-    let code = shape.entry.code;
-    let end = start + len;
-    let to = at + len;
-    octets::copy(&payload[start..end], &mut bodies[at..to]);
-    bodies[at + last] = payload[start + last] - code;
+    let last = entry.octets - 1;
+    octets::copy(octets, body);
+    body[last] = octets[last] - entry.code;
 }
 
-// The rows and bodies of an accepted payload with so many frames and octets of bodies, from its last frame to its first.
-fn fill(
-    framing: Framing,
+// The rows and bodies of a payload that holds so much, from its last frame to its first.
+fn fill(framing: Framing, payload: &[u8], summary: Summary, rows: &mut [u16], bodies: &mut [u8])
+    requires { Fillable framing payload.now summary (length rows.old) (length bodies.old) }
+    ensures rows { rows.new ≡ (read_into framing payload.now rows.old bodies.old).rows }
+    ensures bodies { bodies.new ≡ (read_into framing payload.now rows.old bodies.old).bodies }
+{
+    let mut unread = payload.len();
+    let mut at = summary.octets;
+    for index in (0..summary.frames).rev() {
+        // The walk has gone over this frame, so there is always one.
+        let row = wire::identify(framing, &payload[..unread]).unwrap();
+        let shape = wire::shape_of(framing, row);
+        unread -= shape.wire;
+        at -= shape.body;
+        put_row(rows, index, shape.entry.number, row.tc);
+        put_body(
+            &payload[unread..unread + shape.body],
+            shape.entry,
+            &mut bodies[at..at + shape.body],
+        );
+    }
+}
+
+// Reads a payload in a session. A rate that no session has is refused before all else, and nothing is written before the walk has
+// accepted the payload and both lists are known to have room.
+pub fn read(
+    session: Session,
     payload: &[u8],
     rows: &mut [u16],
     bodies: &mut [u8],
-    frames: usize,
-    octets: usize,
-)
-    requires { Fillable framing payload.now frames octets (length rows.old) (length bodies.old) }
-    ensures { (rows.new ≡ (read_into framing payload.now rows.old bodies.old).rows)
-        × (bodies.new ≡ (read_into framing payload.now rows.old bodies.old).bodies) }
-{
-    let mut unread = payload.len();
-    let mut index = frames;
-    let mut at = octets;
-    while 0 < unread {
-        let ending = wire::identify(framing, &payload[..unread]);
-        // The walk has gone over this frame, so there is always one.
-        let Ending::Names(row) = ending else {
-            return;
-        };
-        let shape = wire::shape_of(framing, row);
-        unread -= shape.wire;
-        index -= 1;
-        at -= shape.body;
-        put_row(rows, index, shape.entry.number, row.tc);
-        put_body(payload, unread, shape, bodies, at);
-    }
-}
-
-// Reads a payload. Nothing is written before the walk has accepted it and both lists are known to have room.
-fn read_framed(framing: Framing, payload: &[u8], rows: &mut [u16], bodies: &mut [u8]) -> Reading
-    ensures { CameTo (read_into framing payload.now rows.old bodies.old) result rows.new bodies.new }
-{
-    let walked = wire::walk(framing, payload);
-    match walked {
-        Walked::Refused(refusal) => Reading::Refused(refusal),
-        Walked::Whole(summary) => {
-            let frames = summary.frames;
-            let octets = summary.octets;
-            if rows.len() / 2 < frames {
-                return Reading::Refused(Refusal {
-                    number: refusal::NUMBERS_TOO_SHORT,
-                    place: frames,
-                });
-            }
-            if bodies.len() < octets {
-                return Reading::Refused(Refusal {
-                    number: refusal::OCTETS_TOO_SHORT,
-                    place: octets,
-                });
-            }
-            fill(framing, payload, rows, bodies, frames, octets);
-            Reading::Read(summary)
-        }
-    }
-}
-
-// Reads a payload in a session. A rate that no session has is refused before all else.
-pub fn read(session: Session, payload: &[u8], rows: &mut [u16], bodies: &mut [u8]) -> Reading
+) -> Result<Summary, Refusal>
     ensures { Reads session payload.now rows.old bodies.old result rows.new bodies.new }
 {
-    let known = wire::framing_of(session);
-    match known {
-        KnownFraming::Unknown => Reading::Refused(Refusal {
-            number: refusal::UNKNOWN,
-            place: 0,
-        }),
-        KnownFraming::Is(framing) => read_framed(framing, payload, rows, bodies),
+    let framing = Framing::try_from(session)?;
+    let summary = wire::walk(framing, payload)?;
+    if rows.len() / 2 < summary.frames {
+        return Err(Reason::NumbersTooShort.at(summary.frames));
     }
+    if bodies.len() < summary.octets {
+        return Err(Reason::OctetsTooShort.at(summary.octets));
+    }
+    fill(framing, payload, summary, rows, bodies);
+    Ok(summary)
 }

@@ -1,16 +1,11 @@
 -- A row behind rows that are in order: the writer's checks of all rows come to those of the last row and the new one.
-use mathlib.Core.Path.{◌≡◌, refl, sym, ap, ◌∙◌}
-use mathlib.Core.Logic.{◌⊎◌, inl, inr}
-use mathlib.Core.Bool.{Bool, true, false, not, ◌&&◌}
-use mathlib.Core.List.{List, [], ◌∷◌, ◌++◌, append_assoc, append-nil}
-use mathlib.Core.Option.{Option, none, some}
-use Prim.Native.Nat.{ℕ, ◌+◌, ◌-◌, ◌*◌, ◌≤◌, ◌<◌}
+use Rattle.std.proofs.lemmas.List.{length_push}
+use Rattle.std.proofs.Common.{◌≡◌, ℕ, ◌+◌, ◌-◌, ◌*◌, ◌≤◌, ◌<◌, ◌⊎◌, inl, inr, Bool, true, false, not, ◌&&◌, ltb, List, [], ◌∷◌, ◌++◌, Option, Some, None, length, refl, sym, ap, ◌∙◌, append_assoc, append-nil, length-append, arith}
 use native.Mathlib.Nat.{div-add-mod}
-use native.Mathlib.Omega.{arith}
 use native.Mathlib.Decide.{ℕ_discrete}
-use lib.Dec.{ltb}
-use lib.ListN.{length, length-append}
 use borrow.Author.Tests.{le-ltb}
+use Rattle.refusal.specs.declared.Reason.{Reason}
+use Rattle.refusal.specs.declared.Reason.TheVariants.{TooLong, ComfortNoiseNotLast, RatesMixed, WrongTc}
 use Rattle.wire.specs.Frame.{table, kind_of, row, rate, wire_octets, sum_of, numbers_of, LegalRow, OfRate}
 use Rattle.wire.specs.Walk.{is_noise}
 use Rattle.wire.specs.declared.Framing.TheVariants.{Unframed}
@@ -23,7 +18,7 @@ use Rattle.writer.specs.Stages.{AllOf, OneRate}
 use Rattle.writer.proofs.WireRows.{length_numbers}
 use Rattle.writer.proofs.RowLaws.{all_snoc, one_same, one_other, noise_followed, Standing, Says, says, fit_passes}
 use Rattle.writer.proofs.RowSequences.{check_many, check_each}
-use Rattle.record.proofs.RowLists.{numbers_append, length-snoc}
+use Rattle.record.proofs.RowLists.{numbers_append}
 
 -- ---- the same checks at another place
 
@@ -32,7 +27,7 @@ abbrev placed : {A : Type 0} → ℕ → Outcome A → Outcome A
 placed n (passed x) = passed x
 placed n (refused m place) = refused m n
 
-tests : {A : Type 0} (a b c : Bool) (x : A) (p q i j k : ℕ)
+tests : {A : Type 0} (a b c : Bool) (x : A) (p q : ℕ) (i j k : Reason)
     → refuse_if a i p (refuse_if b j p (refuse_if c k p (passed x))) ≡ placed p (refuse_if a i q (refuse_if b j q (refuse_if c k q (passed x))))
 tests true b c x p q i j k = refl
 tests false true c x p q i j k = refl
@@ -50,16 +45,16 @@ module _ (r : ℕ) (z : r ≡ 0 → ⊥) (xs ys : List Row) (one : OneRate Unfra
   -- behind rows of one rate it does not matter which
   same_row : (o : Option Kind) (t later : ℕ) → row_of Unframed xs later o t ≡ placed (length xs) (row_of Unframed ys later o t)
   unfolding row_of
-  same_row none t later = refl
-  same_row (some k) t later =
-      ap (λ (b : Bool). refuse_if (is_wrong_tc k t) 13 (length xs)
-      (refuse_if (is_noise (row k t) && ltb 0 later) 6 (length xs) (refuse_if (not (is_noise (row k t)) && b) 8 (length xs) (passed (row k t))))) (same_mixed (table k).rate)
-      ∙ tests (is_wrong_tc k t) (is_noise (row k t) && ltb 0 later) (not (is_noise (row k t)) && is_mixed Unframed (table k).rate ys) (row k t) (length xs) (length ys) 13 6 8
+  same_row None t later = refl
+  same_row (Some k) t later =
+      ap (λ (b : Bool). refuse_if (is_wrong_tc k t) WrongTc (length xs)
+      (refuse_if (is_noise (row k t) && ltb 0 later) ComfortNoiseNotLast (length xs) (refuse_if (not (is_noise (row k t)) && b) RatesMixed (length xs) (passed (row k t))))) (same_mixed (table k).rate)
+      ∙ tests (is_wrong_tc k t) (is_noise (row k t) && ltb 0 later) (not (is_noise (row k t)) && is_mixed Unframed (table k).rate ys) (row k t) (length xs) (length ys) WrongTc ComfortNoiseNotLast RatesMixed
 
 -- ---- the rows before the last
 
 next : (earlier : List Row) (x : Row) (ns : List ℕ)
-    → row_by_row Unframed earlier ((table x.kind).number ∷ x.tc ∷ ns) ≡ and_then (row_of Unframed earlier (length ns) (some x.kind) x.tc) (λ y. row_by_row Unframed (earlier ++ (y ∷ [])) ns)
+    → row_by_row Unframed earlier ((table x.kind).number ∷ x.tc ∷ ns) ≡ and_then (row_of Unframed earlier (length ns) (Some x.kind) x.tc) (λ y. row_by_row Unframed (earlier ++ (y ∷ [])) ns)
 next earlier x ns = ap (λ (k : Option Kind). and_then (row_of Unframed earlier (length ns) k x.tc) (λ y. row_by_row Unframed (earlier ++ (y ∷ [])) ns)) (kind_of_lem x.kind)
 
 stood : (earlier : List Row) (x : Row) (ns : List ℕ) → LegalRow x → Standing Unframed earlier (length ns) x
@@ -68,7 +63,7 @@ stood earlier x ns l s =
     next earlier x ns ∙ ap (λ (w : Outcome Row). and_then w (λ y. row_by_row Unframed (earlier ++ (y ∷ [])) ns)) (fit_passes Unframed earlier (length ns) x l s)
 
 not_nil : {A : Type 0} (ys : List Row) (l : Row) → ys ++ (l ∷ []) ≡ [] → A
-not_nil ys l e = absurd (omega (arith, ap length e, length-snoc ys l))
+not_nil ys l e = absurd (omega (arith, ap length e, length_push ys l))
 
 -- comfort noise, or a coder row of this rate
 abbrev Coded : ℕ → Row → Type 0
@@ -105,9 +100,9 @@ module _ (r : ℕ) (l : Row) where
 
 -- how the checks of the last row and the new one, and those of all rows, come out: refused at the last row, refused at the new one, or a row
 pub data Alike (xs : List Row) (k t : ℕ) (small big : Outcome (List Row)) : Type 0 where
-  at_last : (m : ℕ) → small ≡ refused m 0 → big ≡ refused m (length xs - 1) → Alike xs k t small big
-  at_end_lem : (m : ℕ) → small ≡ refused m 1 → big ≡ refused m (length xs) → Alike xs k t small big
-  sound : (x : Row) (zs : List Row) → kind_of k ≡ some x.kind → t ≡ x.tc → small ≡ passed zs → big ≡ total (xs ++ (x ∷ [])) → Alike xs k t small big
+  at_last : (m : Reason) → small ≡ refused m 0 → big ≡ refused m (length xs - 1) → Alike xs k t small big
+  at_end_lem : (m : Reason) → small ≡ refused m 1 → big ≡ refused m (length xs) → Alike xs k t small big
+  sound : (x : Row) (zs : List Row) → kind_of k ≡ Some x.kind → t ≡ x.tc → small ≡ passed zs → big ≡ total (xs ++ (x ∷ [])) → Alike xs k t small big
 
 small_row : (x : Row) → LegalRow x → wire_octets x ≤ 268
 small_row x l = let b = bounds x.kind in omega (arith, l.most, count_most (table x.kind).counting x.tc)
@@ -116,7 +111,7 @@ small_row x l = let b = bounds x.kind in omega (arith, l.most, count_most (table
 each : (ns : List ℕ) (n : ℕ) → length ns ≡ 2 * n → n ≤ 200 → check_of Unframed ns ≡ and_then (row_by_row Unframed [] ns) total
 each ns n e h = let d = div-add-mod (length ns) 2 in check_each Unframed ns (λ q. omega arith) (omega arith)
 
-pub many : (ns : List ℕ) (n : ℕ) → length ns ≡ 2 * n → 200 < n → check_of Unframed ns ≡ refused 1 1400
+pub many : (ns : List ℕ) (n : ℕ) → length ns ≡ 2 * n → 200 < n → check_of Unframed ns ≡ refused TooLong 1400
 many ns n e h = let d = div-add-mod (length ns) 2 in check_many Unframed ns (λ q. omega arith) (omega arith)
 
 module _ (k t : ℕ) where
@@ -126,7 +121,7 @@ module _ (k t : ℕ) where
     where
       go : (o : Outcome Row) → Says Unframed [] 0 (kind_of k) t o
           → Alike [] k t (and_then (and_then o (λ x. passed (x ∷ []))) total) (and_then (and_then o (λ x. passed (x ∷ []))) total)
-      go (refused m place) w = at_last m (ap (refused m) w.1) (ap (refused m) w.1)
+      go (refused m place) w = at_last m (ap (refused m) w) (ap (refused m) w)
       go (passed x) fit = sound x (x ∷ []) fit.kind fit.tc (simp (le-ltb 1400 (sum_of wire_octets (x ∷ [])) (omega (arith, small_row x fit.legal)))) refl
 
   module _ (r : ℕ) (ys : List Row) (l : Row) (o : OfRate r (ys ++ (l ∷ []))) (few : length (ys ++ (l ∷ [])) < 200) where
@@ -154,12 +149,12 @@ module _ (k t : ℕ) where
     -- behind comfort noise
     noise : LegalRow l → rate l ≡ 0 → Alike (ys ++ (l ∷ [])) k t small big
     noise legal z =
-        let place : length ys ≡ length (ys ++ (l ∷ [])) - 1 = omega (arith, length-snoc ys l) in
-        at_last 6
+        let place : length ys ≡ length (ys ++ (l ∷ [])) - 1 = omega (arith, length_push ys l) in
+        at_last ComfortNoiseNotLast
         (small_is ∙ ap (λ (w : Outcome (List Row)). and_then w total) (at []))
-        (big_is ∙ ap (λ (w : Outcome (List Row)). and_then w total) (at ys) ∙ ap (refused 6) place)
+        (big_is ∙ ap (λ (w : Outcome (List Row)). and_then w total) (at ys) ∙ ap (refused ComfortNoiseNotLast) place)
       where
-        at : (earlier : List Row) → row_by_row Unframed earlier (numbers_of (l ∷ []) ++ (k ∷ t ∷ [])) ≡ refused 6 (length earlier)
+        at : (earlier : List Row) → row_by_row Unframed earlier (numbers_of (l ∷ []) ++ (k ∷ t ∷ [])) ≡ refused ComfortNoiseNotLast (length earlier)
         at earlier =
             next earlier l (k ∷ t ∷ [])
             ∙ ap (λ (w : Outcome Row). and_then w (λ y. row_by_row Unframed (earlier ++ (y ∷ [])) (k ∷ t ∷ []))) (noise_followed Unframed earlier 2 l.kind l.tc legal z (omega arith))
@@ -186,7 +181,7 @@ module _ (k t : ℕ) where
         go : (w : Outcome Row) → row_of Unframed (l ∷ []) 0 (kind_of k) t ≡ w → Says Unframed (l ∷ []) 0 (kind_of k) t w → Alike (ys ++ (l ∷ [])) k t small big
         go (refused m place) q s =
             at_end_lem m
-            (below ∙ ap (λ (w : Outcome Row). and_then (and_then w (λ x. passed (l ∷ x ∷ []))) total) q ∙ ap (refused m) s.1)
+            (below ∙ ap (λ (w : Outcome Row). and_then (and_then w (λ x. passed (l ∷ x ∷ []))) total) q ∙ ap (refused m) s)
             (above ∙ ap (λ (w : Outcome Row). and_then (and_then (placed (length (ys ++ (l ∷ []))) w) (λ x. passed ((ys ++ (l ∷ [])) ++ (x ∷ [])))) total) q)
         go (passed x) q fit =
             sound x (l ∷ x ∷ []) fit.kind fit.tc

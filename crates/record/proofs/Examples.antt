@@ -1,8 +1,6 @@
 -- Operations that are refused or change what a record holds, and what they come to, by computation.
-use mathlib.Core.Path.{◌≡◌, refl}
-use mathlib.Core.List.{List, [], ◌∷◌, map}
-use Prim.Native.Nat.{ℕ}
-use lib.ListN.{replicate, take}
+use Rattle.std.proofs.Common.{◌≡◌, ℕ, List, [], ◌∷◌, map, take, replicate, refl}
+use Rattle.refusal.specs.declared.Reason.TheVariants.{TooLong, ComfortNoiseNotLast, RatesMixed, Unknown, WrongTc}
 use Rattle.wire.specs.Frame.{row, count_in, ticks_of_rate}
 use Rattle.wire.specs.declared.Kind.TheVariants.{Bps2400, Bps1200, Bps600, ComfortNoise, Tsvcis}
 use Rattle.wire.specs.declared.Row.{Row}
@@ -21,22 +19,22 @@ Line = Operation × List Row × Outcome (List Row)
 
 abbrev pub lines : List Line
 lines =
-    (to_pop, [], refused 12 0)
-    ∷ (to_replace 0 1 0, [], refused 12 0)
-    ∷ (to_replace 2 9 9, coders 2, refused 12 0)
-    ∷ (to_replace 0 3 0, coders 3, refused 8 1)
+    (to_pop, [], refused Unknown 0)
+    ∷ (to_replace 0 1 0, [], refused Unknown 0)
+    ∷ (to_replace 2 9 9, coders 2, refused Unknown 0)
+    ∷ (to_replace 0 3 0, coders 3, refused RatesMixed 1)
     ∷ (to_replace 0 3 0, coders 1, passed (row Bps600 0 ∷ []))
-    ∷ (to_replace 1 4 0, coders 3, refused 6 1)
+    ∷ (to_replace 1 4 0, coders 3, refused ComfortNoiseNotLast 1)
     ∷ (to_replace 2 4 0, coders 3, passed (row Bps2400 0 ∷ row Bps2400 0 ∷ row ComfortNoise 0 ∷ []))
-    ∷ (to_push 1 0, row Bps2400 0 ∷ row ComfortNoise 0 ∷ [], refused 6 1)
-    ∷ (to_push 9 9, row ComfortNoise 0 ∷ [], refused 6 0)
-    ∷ (to_push 9 0, coders 2, refused 12 2)
-    ∷ (to_push 5 0, coders 2, refused 13 2)
-    ∷ (to_push 2 0, coders 2, refused 8 2)
+    ∷ (to_push 1 0, row Bps2400 0 ∷ row ComfortNoise 0 ∷ [], refused ComfortNoiseNotLast 1)
+    ∷ (to_push 9 9, row ComfortNoise 0 ∷ [], refused ComfortNoiseNotLast 0)
+    ∷ (to_push 9 0, coders 2, refused Unknown 2)
+    ∷ (to_push 5 0, coders 2, refused WrongTc 2)
+    ∷ (to_push 2 0, coders 2, refused RatesMixed 2)
     ∷ (to_push 5 15, coders 1, passed (row Bps2400 0 ∷ row Tsvcis 15 ∷ []))
-    ∷ (to_push 1 0, replicate 127 (row Bps1200 0), refused 8 127)
-    ∷ (to_push 2 0, replicate 127 (row Bps1200 0), refused 1 1400)
-    ∷ (to_push 9 9, coders 200, refused 1 1400)
+    ∷ (to_push 1 0, replicate 127 (row Bps1200 0), refused RatesMixed 127)
+    ∷ (to_push 2 0, replicate 127 (row Bps1200 0), refused TooLong 1400)
+    ∷ (to_push 9 9, coders 200, refused TooLong 1400)
     ∷ []
 
 pub as_computed : map (λ (l : Line). outcome_of l.0 l.1) lines ≡ map (λ (l : Line). l.2) lines

@@ -3,7 +3,6 @@ pub mod RowLists
 pub mod Ends
 pub mod Changed
 pub mod Asking
-pub mod Steps
 pub mod Turns
 pub mod Runs
 pub mod Examples

@@ -1,10 +1,7 @@
 -- Arrays whose unused places are 0: the next place filled, the last cleared, and what the used ones hold.
-use mathlib.Core.Path.{◌≡◌, sym, ap, ◌∙◌}
-use mathlib.Core.List.{List, [], ◌∷◌, ◌++◌, append_assoc}
-use Prim.Native.Nat.{ℕ, suc, ◌+◌, ◌-◌, ◌≤◌, ◌<◌}
-use native.Mathlib.Omega.{arith}
-use lib.ListN.{length, get_or, set, take, replicate, length-append, length-set, get_or-append}
-use lib.Seq.{get_or_at, set_at, set_comm, set-append_left, take_at}
+use Rattle.std.proofs.Common.{◌≡◌, ℕ, suc, ◌+◌, ◌-◌, ◌≤◌, ◌<◌, List, [], ◌∷◌, ◌++◌, length, get_or, set, take, replicate, sym, ap, ◌∙◌, append_assoc, length-append, length-set, arith}
+use Rattle.std.proofs.Math.Seq.{get_or_at, set_at, set_comm, set-append_left, take_at}
+use Rattle.std.proofs.Math.ListN.{get_or-append}
 use Rattle.record.specs.Afresh.{padded}
 
 module _ (m : ℕ) (ns : List ℕ) (h : length ns < m) where

@@ -1,19 +1,17 @@
 -- Row lists with one row more at their end: their numbers, starts, sums and record; and the rows before the last, which are in order too.
-use mathlib.Core.Path.{◌≡◌, refl, sym, ap, ◌∙◌}
-use mathlib.Core.Logic.{◌⊎◌, inl, inr}
-use mathlib.Core.List.{List, [], ◌∷◌, ◌++◌}
-use mathlib.Core.Option.{Option, some}
-use Prim.Native.Nat.{ℕ, suc, ◌+◌, ◌-◌, ◌*◌, ◌≤◌, ◌<◌}
-use native.Mathlib.Omega.{arith}
-use lib.ListN.{length, get_or, set, length-append}
-use lib.Seq.{get_or_at}
+use Rattle.std.proofs.lemmas.List.{length_push}
+use Rattle.std.proofs.Common.{◌≡◌, ℕ, suc, ◌+◌, ◌-◌, ◌*◌, ◌≤◌, ◌<◌, ◌⊎◌, inl, inr, List, [], ◌∷◌, ◌++◌, Option, Some, length, get_or, set, refl, sym, ap, ◌∙◌, length-append, arith}
+use Rattle.std.proofs.Math.Seq.{get_or_at}
 use Rattle.wire.specs.Frame.{table, kind_of, rate, ticks, wire_octets, sum_of, numbers_of, Stands, OfRate, LegalRows}
+use Rattle.wire.specs.Answers.{shape_of}
 use Rattle.wire.specs.declared.Framing.TheVariants.{Unframed}
 use Rattle.wire.specs.declared.Kind.{Kind}
 use Rattle.wire.specs.declared.Row.{Row}
-use Rattle.wire.proofs.TableLaws.{kind_of_lem}
+use Rattle.wire.specs.declared.Shape.{Shape}
+use Rattle.wire.proofs.TableLaws.{kind_of_lem, bounds, count_most}
 use Rattle.wire.proofs.Rates.{either, ticks_most}
-use Rattle.writer.proofs.WireRows.{noise_stands, coder_stands, length_numbers, rows_most}
+use Rattle.wire.proofs.Rates.{noise_stands, coder_stands}
+use Rattle.writer.proofs.WireRows.{length_numbers, rows_most}
 use Rattle.record.specs.Afresh.{padded, starts_from, record_of}
 use Rattle.record.specs.Promise.{MadeFrom}
 use Rattle.record.specs.Stages.{with_row, without_last, ticks_if}
@@ -32,9 +30,6 @@ sum-append f (x ∷ xs) ys = omega (arith, sum-append f xs ys)
 
 pub sum-snoc : (f : Row → ℕ) (xs : List Row) (x : Row) → sum_of f (xs ++ (x ∷ [])) ≡ sum_of f xs + f x
 sum-snoc f xs x = omega (arith, sum-append f xs (x ∷ []))
-
-pub length-snoc : (xs : List Row) (x : Row) → length (xs ++ (x ∷ [])) ≡ length xs + 1
-length-snoc xs x = length-append xs (x ∷ [])
 
 pub length_starts : (a : ℕ) (xs : List Row) → length (starts_from a xs) ≡ length xs
 length_starts a [] = refl
@@ -57,6 +52,10 @@ ended (x ∷ xs) = go (ended xs)
     go : Ended xs → Ended (x ∷ xs)
     go (inl e) = inr ([], x, ap (λ (l : List Row). x ∷ l) e)
     go (inr w) = inr (x ∷ w.0, w.1, ap (λ (l : List Row). x ∷ l) w.2)
+
+-- the octets of a row: at most 11 of its base, its TC, and two of its count
+pub wire_most : (x : Row) {s : Shape} → s ≡ shape_of Unframed x → s.wire ≤ x.tc + 13
+wire_most x e = let b = bounds x.kind in rw e (omega (arith, count_most (table x.kind).counting x.tc))
 
 -- ---- in order
 
@@ -109,7 +108,7 @@ module _ (xs : List Row) (x : Row) (h : length xs < 200) where
   with_row_lem =
       let numbers = fill_two 400 (numbers_of xs) numbers_room (table x.kind).number x.tc (2 * length xs) (sym (length_numbers xs)) ∙ ap (padded 400) (sym (numbers_append xs (x ∷ []))) in
       let starts = fill 200 (starts_from 0 xs) starts_room (sum_of wire_octets xs) (length xs) (sym (length_starts 0 xs)) ∙ ap (padded 200) starts_last in
-      let rows = sym (length-snoc xs x) in
+      let rows = sym (length_push xs x) in
       let octets = sym (sum-snoc wire_octets xs x) in
       let time = sym (sum-snoc ticks xs x) in
       λ i. record { numbers = numbers i; starts = starts i; rows = rows i; octets = octets i; ticks = time i }
@@ -130,7 +129,7 @@ module _ (xs : List Row) (x : Row) (h : length xs < 200) where
   pub tc_last : get_or (padded 400 (numbers_of (xs ++ (x ∷ [])))) (2 * length xs + 1) 0 ≡ x.tc
   tc_last = inside 1 (omega arith) ∙ get_d_second (numbers_of xs) (table x.kind).number x.tc [] (2 * length xs) (length_numbers xs)
 
-  kind_last : kind_of (get_or (padded 400 (numbers_of (xs ++ (x ∷ [])))) (2 * length xs) 0) ≡ some x.kind
+  kind_last : kind_of (get_or (padded 400 (numbers_of (xs ++ (x ∷ [])))) (2 * length xs) 0) ≡ Some x.kind
   kind_last = ap kind_of number_last ∙ kind_of_lem x.kind
 
   start_last : get_or (padded 200 (starts_from 0 (xs ++ (x ∷ [])))) (length xs) 0 ≡ sum_of wire_octets xs

@@ -1,9 +1,8 @@
 -- What the private functions ask of one another and hand on. No public promise reaches this file.
-use Rattle.std.specs.Prelude.{◌≡◌, cond, List, [], ◌∷◌, ◌++◌, ℕ, ◌+◌, ◌-◌, ◌*◌, ◌≤◌, ◌<◌, ltb, eqb, length, get_or, set, take}
-use Rattle.std.proofs.Math.Option.{Option, none, some}
-use Rattle.refusal.specs.Numbers.{too_long}
+use Rattle.std.specs.Prelude.{◌≡◌, cond, List, [], ◌∷◌, ◌++◌, ℕ, ◌+◌, ◌-◌, ◌*◌, ◌≤◌, ◌<◌, eqb, get_or, set, Option, Some, None, Result, Ok, Err}
 use Rattle.refusal.specs.Report.{refusal}
-use Rattle.wire.specs.Frame.{LegalRows, table, kind_of, row, numbers_of, wire_octets, ticks, ticks_of_rate}
+use Rattle.refusal.specs.declared.Refusal.{Refusal}
+use Rattle.wire.specs.Frame.{LegalRows, table, kind_of, numbers_of, wire_octets, ticks, ticks_of_rate}
 use Rattle.wire.specs.declared.Framing.TheVariants.{Unframed}
 use Rattle.wire.specs.declared.Kind.{Kind}
 use Rattle.wire.specs.declared.Row.{Row}
@@ -11,8 +10,6 @@ use Rattle.writer.specs.Rows.{Outcome, passed, refused, check_of}
 use Rattle.record.specs.Afresh.{record_of}
 use Rattle.record.specs.Promise.{MadeFrom}
 use Rattle.record.specs.declared.Record.{Record}
-use Rattle.record.specs.declared.Next.{Next}
-use Rattle.record.specs.declared.Next.TheVariants.{Is, Refused}
 
 -- ---- one row more, one row less
 
@@ -34,8 +31,8 @@ with_row p x = record {
 
 -- the ticks of a row of this kind, if it is one
 unfoldable pub ticks_if : Option Kind → ℕ
-ticks_if none = 0
-ticks_if (some k) = ticks_of_rate (table k).rate
+ticks_if None = 0
+ticks_if (Some k) = ticks_of_rate (table k).rate
 
 -- the record p without the row at a, its last
 abbrev pub without_last : Record → ℕ → Record
@@ -53,31 +50,26 @@ without_last p a = record {
 unfoldable pub end_numbers : Record → List ℕ
 end_numbers p = cond (eqb p.rows 0) [] (get_or p.numbers (2 * (p.rows - 1)) 0 ∷ get_or p.numbers (2 * (p.rows - 1) + 1) 0 ∷ [])
 
--- the row x behind so many octets; or 1
-unfoldable pub fitting : ℕ → Row → Next
-fitting octets x = cond (ltb 1400 (octets + wire_octets x)) (Refused (refusal too_long 1400)) (Is x)
-
--- what is said of a row of this kind, if it is one, behind so many octets
-abbrev pub Named : ℕ → Option Kind → ℕ → Next → Type 0
-Named octets o t r = (k : Kind) → o ≡ some k → r ≡ fitting octets (row k t)
+-- a refusal of the last row or of a new one, 0 or 1, at the row's place among all rows
+abbrev pub among_all : Record → Refusal → Refusal
+among_all p x = refusal x.reason (cond (eqb x.place 0) (p.rows - 1) p.rows)
 
 -- the outcome of the writer's checks of all rows: of these rows and one more
-abbrev pub Tells : List Row → Outcome (List Row) → Next → Type 0
-Tells xs o (Is x) = o ≡ passed (xs ++ (x ∷ []))
-Tells xs o (Refused y) = o ≡ refused y.number y.place
+abbrev pub Tells : List Row → Outcome (List Row) → Result Row Refusal → Type 0
+Tells xs o (Ok x) = o ≡ passed (xs ++ (x ∷ []))
+Tells xs o (Err y) = o ≡ refused y.reason y.place
 
 -- a row behind those of a record made from rows
-abbrev pub Behind : Record → ℕ → ℕ → Next → Type 0
+abbrev pub Behind : Record → ℕ → ℕ → Result Row Refusal → Type 0
 Behind p k t r = (xs : List Row) → MadeFrom xs p → Tells xs (check_of Unframed (numbers_of xs ++ (k ∷ t ∷ []))) r
 
 -- ---- afresh
 
--- the first numbers hold these rows, which are in order
-pub record Holds (ns : List ℕ) (n : ℕ) (xs : List Row) : Type 0 where
+-- numbers hold these rows, which are in order
+pub record Holds (ns : List ℕ) (xs : List Row) : Type 0 where
   pub legal : LegalRows Unframed xs
-  pub rows : n ≡ length xs
-  pub numbers : take (2 * n) ns ≡ numbers_of xs
+  pub numbers : ns ≡ numbers_of xs
 
--- the record is that of the rows that the first numbers hold
-abbrev pub Afresh : List ℕ → ℕ → Record → Type 0
-Afresh ns n r = (xs : List Row) → Holds ns n xs → r ≡ record_of xs
+-- the record is that of the rows that numbers hold
+abbrev pub Afresh : List ℕ → Record → Type 0
+Afresh ns r = (xs : List Row) → Holds ns xs → r ≡ record_of xs

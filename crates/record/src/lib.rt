@@ -1,33 +1,28 @@
 // The packet record: rows, each row's start on the wire, and the octets and ticks of them all, kept while rows are taken, dropped and
-// replaced, so that none is added up when it is asked for. A record goes in by value and comes back.
+// replaced, so that none is added up when it is asked for.
 #![tactic(auto)]
 
-ghost use Rattle.std.specs.Prelude.{◌≡◌, cond, List, [], ◌∷◌, ◌++◌, ◌+◌, ◌-◌, ◌*◌, ◌≤◌, ◌<◌, ltb, eqb, length, get_or, set, take};
-ghost use Rattle.refusal.specs.Report.{refusal};
+ghost use Rattle.std.specs.Prelude.{◌≡◌, List, [], ◌∷◌, ◌++◌, ◌-◌, ◌≤◌, ◌<◌, length};
 ghost use Rattle.wire.specs.Frame.{kind_of, sum_of, ticks, wire_octets};
 ghost use Rattle.clock.specs.Time.{ticks_in};
 ghost use Rattle.writer.specs.Promise.{Checks};
 ghost use Rattle.record.specs.Afresh.{record_of};
 ghost use Rattle.record.specs.Operations.{to_push, to_pop, to_replace};
-ghost use Rattle.record.specs.Promise.{accepted_with, refused_by, Changes, Asked, AskedAt, row_report, row_held, row_in, start_report, start_held, start_in};
-ghost use Rattle.record.specs.Stages.{Within, Holds, with_row, without_last, ticks_if, end_numbers, fitting, Named, Behind, Afresh};
+ghost use Rattle.record.specs.Promise.{Changes, Asked, row_held, row_in, start_held, start_in};
+ghost use Rattle.record.specs.Stages.{Within, with_row, without_last, ticks_if, end_numbers, among_all, Behind, Holds, Afresh};
 
 use clock::Ticks;
-use refusal::Refusal;
-use wire::{Framing, Known, Row};
-use writer::RowCheck;
+use refusal::{Reason, Refusal};
+use wire::{Framing, Kind, MOST_FRAMES, MOST_OCTETS, Row};
+use writer::Totals;
 
-const MOST_OCTETS: usize = 1400;
-
-const MOST_ROWS: usize = 200;
-
-// What 200 rows last at most.
+// What the most frames of a packet last at most.
 const MOST_TICKS: u32 = 144000;
 
 // A packet's rows: kind and TC of each, as rows are lent; where each starts on the wire; how many there are; the octets and the ticks of
-// them all. Unused places are 0.
+// them all. Unused places are 0. Arrays with a count beside them, since the C interface holds this layout (include/moult.h).
 #[repr(C)]
-#[derive(Clone, Copy)]
+#[derive(Clone, Copy, Debug, PartialEq, Eq)]
 pub struct Record {
     pub numbers: [u16; 400],
     pub starts: [u16; 200],
@@ -36,370 +31,215 @@ pub struct Record {
     pub ticks: u32,
 }
 
-// What an operation answers: the refusal, of number 0 and place 0 where it is accepted, and the record, unchanged where it is refused.
-#[derive(Clone, Copy)]
-pub struct Change {
-    pub refusal: Refusal,
-    pub after: Record,
-}
-
 // A row's two numbers.
-#[derive(Clone, Copy)]
+#[derive(Clone, Copy, Debug, PartialEq, Eq, Hash)]
 pub struct RowNumbers {
     pub kind: u16,
     pub tc: u16,
 }
 
-// The row asked for, or 12 where it is missing.
-#[derive(Clone, Copy)]
-pub enum RowAsked {
-    Is(RowNumbers),
-    Refused(Refusal),
-}
-
-// Where the row asked for starts on the wire, or 12 where it is missing.
-#[derive(Clone, Copy)]
-pub enum StartAsked {
-    At(usize),
-    Refused(Refusal),
-}
-
-// What two numbers come to behind the rows of a record: a row, or the refusal.
-#[derive(Clone, Copy)]
-enum Next {
-    Is(Row),
-    Refused(Refusal),
-}
-
-// ---- changes
-
-fn refused(packet: Record, number: u8, place: usize) -> Change
-    ensures { result ≡ refused_by packet number place }
-{
-    Change {
-        refusal: Refusal { number, place },
-        after: packet,
-    }
-}
-
-fn accepted(packet: Record) -> Change
-    ensures { result ≡ accepted_with packet }
-{
-    Change {
-        refusal: Refusal {
-            number: 0,
-            place: 0,
-        },
-        after: packet,
-    }
-}
-
-// The record of no rows.
-pub fn empty() -> Record
-    ensures { result ≡ record_of [] }
-{
-    Record {
-        numbers: [0; 400],
-        starts: [0; 200],
-        rows: 0,
-        octets: 0,
-        ticks: 0,
-    }
-}
-
-// The record with this row behind its rows.
-fn with_row(packet: Record, row: Row) -> Record
-    requires { Within packet }
-    ensures { result ≡ with_row packet row }
-{
-    let shape = wire::shape_of(Framing::Unframed, row);
-    let ticks = wire::ticks_of_rate(shape.entry.rate);
-    let at = packet.rows;
-    let start = packet.octets;
-    let mut next = packet;
-    next.numbers[2 * at] = shape.entry.number;
-    next.numbers[2 * at + 1] = row.tc;
-    next.starts[at] = start as u16;
-    next.rows = at + 1;
-    next.octets = start + shape.wire;
-    next.ticks = packet.ticks + ticks;
-    next
-}
-
-// ---- a row at the end
-
-// The writer's checks of these two numbers behind the last row, or of them alone where there is none. They take no pass over the other
-// rows: where those are in order, the last one shows what may stand behind them.
-fn check_end(packet: Record, kind: u16, tc: u16) -> RowCheck
-    requires { packet.rows ≤ 200 }
-    ensures { Checks (end_numbers packet ++ (kind ∷ tc ∷ [])) result }
-{
-    let rows = packet.rows;
-    if rows == 0 {
-        let alone = [kind, tc];
-        return writer::check_rows(&alone);
-    }
-    let last = 2 * (rows - 1);
-    let both = [packet.numbers[last], packet.numbers[last + 1], kind, tc];
-    writer::check_rows(&both)
-}
-
-// The row that a refusal of these checks names, among all rows.
-fn place_in(rows: usize, place: usize) -> usize
-    ensures { result ≡ cond (eqb place 0) (rows - 1) rows }
-{
-    if place == 0 {
-        if rows == 0 {
-            return 0;
+impl Record {
+    // The record of no rows.
+    #[tactic(auto, unfolding(crate::specs::Afresh::record_of, crate::specs::Afresh::padded))]
+    pub fn empty() -> Record
+        ensures { result ≡ record_of [] }
+    {
+        Record {
+            numbers: [0; 400],
+            starts: [0; 200],
+            rows: 0,
+            octets: 0,
+            ticks: 0,
         }
-        return rows - 1;
     }
-    rows
-}
 
-// This row behind so many octets; or 1.
-fn fit(octets: usize, row: Row) -> Next
-    requires { octets ≤ 1400 }
-    ensures { result ≡ fitting octets row }
-{
-    let shape = wire::shape_of(Framing::Unframed, row);
-    if MOST_OCTETS < octets + shape.wire {
-        return Next::Refused(Refusal {
-            number: refusal::TOO_LONG,
-            place: MOST_OCTETS,
-        });
-    }
-    Next::Is(row)
-}
+    // ---- a row at the end
 
-// The row of these two numbers, which passed their own checks, behind so many octets; or 1.
-fn sound_row(octets: usize, kind: u16, tc: u16) -> Next
-    requires { octets ≤ 1400 }
-    ensures { Named octets (kind_of kind) tc result }
-{
-    let known = wire::kind_of(kind);
-    match known {
-        Known::Unknown => Next::Refused(Refusal {
-            number: refusal::UNKNOWN,
-            place: 0,
-        }),
-        Known::Is(kind) => fit(octets, Row { kind, tc }),
-    }
-}
-
-// The row of these two numbers behind the rows of a record; or the writer's refusal of all of them.
-fn row_behind(packet: Record, kind: u16, tc: u16) -> Next
-    requires { Within packet }
-    ensures { Behind packet kind tc result }
-{
-    let checked = check_end(packet, kind, tc);
-    match checked {
-        RowCheck::Refused(refusal) => {
-            let place = place_in(packet.rows, refusal.place);
-            Next::Refused(Refusal {
-                number: refusal.number,
-                place,
-            })
+    // Takes a row at the end. (No record that operations made has more octets or ticks than are tested here.)
+    pub fn push(&mut self, kind: u16, tc: u16) -> Result<(), Refusal>
+        ensures { Changes (to_push kind tc) self.old result self.new }
+    {
+        if MOST_FRAMES <= self.rows || MOST_OCTETS < self.octets || MOST_TICKS < self.ticks {
+            return Err(Reason::TooLong.at(MOST_OCTETS));
         }
-        RowCheck::Sound(_) => sound_row(packet.octets, kind, tc),
+        let row = self.row_behind(kind, tc)?;
+        self.append(row);
+        Ok(())
+    }
+
+    // The row of these two numbers behind the others; or the writer's refusal of all rows then.
+    fn row_behind(&self, kind: u16, tc: u16) -> Result<Row, Refusal>
+        requires { Within self.now }
+        ensures { Behind self.now kind tc result }
+    {
+        self.check_end(kind, tc)
+            .map_err(|refusal| self.among_all(refusal))?;
+        let kind = Kind::try_from(kind).map_err(|reason| reason.at(0))?;
+        let row = Row { kind, tc };
+        if MOST_OCTETS < self.octets + wire::shape_of(Framing::Unframed, row).wire {
+            return Err(Reason::TooLong.at(MOST_OCTETS));
+        }
+        Ok(row)
+    }
+
+    // The writer's checks of these two numbers behind the last row, or of them alone where there is none. They take no pass over the other
+    // rows: where those are in order, the last one shows what may stand behind them.
+    #[tactic(auto, unfolding(crate::specs::Stages::end_numbers))]
+    fn check_end(&self, kind: u16, tc: u16) -> Result<Totals, Refusal>
+        requires { self.now.rows ≤ 200 }
+        ensures { Checks (end_numbers self.now ++ (kind ∷ tc ∷ [])) result }
+    {
+        if self.rows == 0 {
+            return writer::check_rows(&[kind, tc]);
+        }
+        let last = 2 * (self.rows - 1);
+        writer::check_rows(&[self.numbers[last], self.numbers[last + 1], kind, tc])
+    }
+
+    // A refusal of these checks, with the row that it names counted among all rows.
+    fn among_all(&self, refusal: Refusal) -> Refusal
+        ensures { result ≡ among_all self.now refusal }
+    {
+        let place = if refusal.place == 0 {
+            self.rows.saturating_sub(1)
+        } else {
+            self.rows
+        };
+        refusal.reason.at(place)
+    }
+
+    // Puts this row behind the others.
+    fn append(&mut self, row: Row)
+        requires { Within self.old }
+        ensures { self.new ≡ with_row self.old row }
+    {
+        let shape = wire::shape_of(Framing::Unframed, row);
+        self.numbers[2 * self.rows] = shape.entry.number;
+        self.numbers[2 * self.rows + 1] = row.tc;
+        self.starts[self.rows] = self.octets as u16;
+        self.rows += 1;
+        self.octets += shape.wire;
+        self.ticks += wire::ticks_of_rate(shape.entry.rate);
+    }
+
+    // ---- the last row dropped
+
+    // Drops the last row.
+    pub fn pop(&mut self) -> Result<(), Refusal>
+        ensures { Changes to_pop self.old result self.new }
+    {
+        if self.rows == 0 {
+            return Err(Reason::Unknown.at(0));
+        }
+        if MOST_FRAMES < self.rows {
+            return Err(Reason::TooLong.at(MOST_OCTETS));
+        }
+        self.drop_last();
+        Ok(())
+    }
+
+    // Takes the last row off.
+    fn drop_last(&mut self)
+        requires { (0 < self.old.rows) × (self.old.rows ≤ 200) }
+        ensures { self.new ≡ without_last self.old (self.old.rows - 1) }
+    {
+        self.rows -= 1;
+        let last = self.rows;
+        self.octets = usize::from(self.starts[last]);
+        let ticks = ticks_of_kind(self.numbers[2 * last]);
+        self.ticks = self.ticks.saturating_sub(ticks);
+        self.numbers[2 * last] = 0;
+        self.numbers[2 * last + 1] = 0;
+        self.starts[last] = 0;
+    }
+
+    // ---- a row replaced
+
+    // Replaces a row.
+    pub fn replace(&mut self, row: usize, kind: u16, tc: u16) -> Result<(), Refusal>
+        ensures { Changes (to_replace row kind tc) self.old result self.new }
+    {
+        if self.rows <= row {
+            return Err(Reason::Unknown.at(0));
+        }
+        if MOST_FRAMES < self.rows {
+            return Err(Reason::TooLong.at(MOST_OCTETS));
+        }
+        let mut numbers = self.numbers;
+        numbers[2 * row] = kind;
+        numbers[2 * row + 1] = tc;
+        let numbers = &numbers[..2 * self.rows];
+        writer::check_rows(numbers)?;
+        *self = Record::afresh(numbers);
+        Ok(())
+    }
+
+    // The record of the rows that these numbers hold, which are in order, so that each is of a known kind.
+    fn afresh(numbers: &[u16]) -> Record
+        requires { (xs : List Row) × Holds numbers.now xs }
+        ensures { Afresh numbers.now result }
+    {
+        let mut made = Record::empty();
+        for pair in numbers.chunks_exact(2) {
+            let kind = Kind::try_from(pair[0]).unwrap();
+            made.append(Row { kind, tc: pair[1] });
+        }
+        made
     }
 }
 
-// Takes a row at the end. (No record that operations made has more octets or ticks than are tested here.)
-pub fn push(packet: Record, kind: u16, tc: u16) -> Change
-    ensures { Changes (to_push kind tc) packet result }
-{
-    if MOST_ROWS <= packet.rows {
-        return refused(packet, refusal::TOO_LONG, MOST_OCTETS);
+// What is asked of a record.
+#[tactic(auto, unfolding(crate::specs::Afresh::record_of))]
+impl Record {
+    // How many rows there are.
+    pub fn rows(&self) -> usize
+        ensures { Asked (λ (p : Record). p.rows) length self.now result }
+    {
+        self.rows
     }
-    if MOST_OCTETS < packet.octets {
-        return refused(packet, refusal::TOO_LONG, MOST_OCTETS);
+
+    // Their octets on the wire.
+    pub fn octets(&self) -> usize
+        ensures { Asked (λ (p : Record). p.octets) (sum_of wire_octets) self.now result }
+    {
+        self.octets
     }
-    if MOST_TICKS < packet.ticks {
-        return refused(packet, refusal::TOO_LONG, MOST_OCTETS);
+
+    // Their ticks.
+    pub fn ticks(&self) -> Ticks
+        ensures { Asked (λ (p : Record). ticks_in p.ticks) (λ (xs : List Row). ticks_in (sum_of ticks xs)) self.now result }
+    {
+        Ticks(self.ticks as usize)
     }
-    let next = row_behind(packet, kind, tc);
-    match next {
-        Next::Refused(refusal) => refused(packet, refusal.number, refusal.place),
-        Next::Is(row) => accepted(with_row(packet, row)),
+
+    // The row at an index, or 12 where it is missing. (`start` asks the same: a method for the test would answer no more than the test.)
+    pub fn row(&self, i: usize) -> Result<RowNumbers, Refusal>
+        ensures { Asked (row_held i) (row_in i) self.now result }
+    {
+        if self.rows <= i || MOST_FRAMES <= i {
+            return Err(Reason::Unknown.at(0));
+        }
+        Ok(RowNumbers {
+            kind: self.numbers[2 * i],
+            tc: self.numbers[2 * i + 1],
+        })
+    }
+
+    // Where the row at an index starts on the wire, or 12 where it is missing.
+    pub fn start(&self, i: usize) -> Result<usize, Refusal>
+        ensures { Asked (start_held i) (start_in i) self.now result }
+    {
+        if self.rows <= i || MOST_FRAMES <= i {
+            return Err(Reason::Unknown.at(0));
+        }
+        Ok(usize::from(self.starts[i]))
     }
 }
-
-// ---- the last row dropped
 
 // The ticks of a row of this kind; 0 of a number that is none.
+#[tactic(auto, unfolding(crate::specs::Stages::ticks_if))]
 fn ticks_of_kind(number: u16) -> u32
     ensures { result ≡ ticks_if (kind_of number) }
 {
-    let known = wire::kind_of(number);
-    match known {
-        Known::Unknown => 0,
-        Known::Is(kind) => wire::ticks_of_rate(wire::entry_of(kind).rate),
-    }
-}
-
-fn difference(a: u32, b: u32) -> u32
-    ensures { result ≡ a - b }
-{
-    if a < b {
-        return 0;
-    }
-    a - b
-}
-
-// The record without the row at an index, its last.
-fn without_last(packet: Record, at: usize) -> Record
-    requires { at < 200 }
-    ensures { result ≡ without_last packet at }
-{
-    let ticks = ticks_of_kind(packet.numbers[2 * at]);
-    let start = packet.starts[at];
-    let mut less = packet;
-    less.numbers[2 * at] = 0;
-    less.numbers[2 * at + 1] = 0;
-    less.starts[at] = 0;
-    less.rows = at;
-    less.octets = start as usize;
-    less.ticks = difference(packet.ticks, ticks);
-    less
-}
-
-// Drops the last row.
-pub fn pop(packet: Record) -> Change
-    ensures { Changes to_pop packet result }
-{
-    let rows = packet.rows;
-    if rows == 0 {
-        return refused(packet, refusal::UNKNOWN, 0);
-    }
-    if MOST_ROWS < rows {
-        return refused(packet, refusal::TOO_LONG, MOST_OCTETS);
-    }
-    accepted(without_last(packet, rows - 1))
-}
-
-// ---- a row replaced
-
-// The numbers with these two in place of a row's.
-fn replaced(numbers: [u16; 400], row: usize, kind: u16, tc: u16) -> [u16; 400]
-    requires { row < 200 }
-    ensures { result ≡ set (set numbers (2 * row) kind) (2 * row + 1) tc }
-{
-    let mut next = numbers;
-    next[2 * row] = kind;
-    next[2 * row + 1] = tc;
-    next
-}
-
-// The writer's checks of the first rows.
-fn check(numbers: [u16; 400], rows: usize) -> RowCheck
-    requires { rows ≤ 200 }
-    ensures { Checks (take (2 * rows) numbers) result }
-{
-    let end = 2 * rows;
-    writer::check_rows(&numbers[..end])
-}
-
-// The record of the first rows, which are in order, so that each is of a known kind.
-fn afresh(numbers: [u16; 400], rows: usize) -> Record
-    requires { (xs : List Row) × Holds numbers rows xs }
-    ensures { Afresh numbers rows result }
-{
-    let mut made = empty();
-    let mut i = 0;
-    while i < rows {
-        let known = wire::kind_of(numbers[2 * i]);
-        match known {
-            Known::Unknown => {
-                return made;
-            }
-            Known::Is(kind) => {
-                let tc = numbers[2 * i + 1];
-                made = with_row(made, Row { kind, tc });
-                i += 1;
-            }
-        }
-    }
-    made
-}
-
-// Replaces a row.
-pub fn replace(packet: Record, row: usize, kind: u16, tc: u16) -> Change
-    ensures { Changes (to_replace row kind tc) packet result }
-{
-    let rows = packet.rows;
-    if rows <= row {
-        return refused(packet, refusal::UNKNOWN, 0);
-    }
-    if MOST_ROWS < rows {
-        return refused(packet, refusal::TOO_LONG, MOST_OCTETS);
-    }
-    let held = packet.numbers;
-    let numbers = replaced(held, row, kind, tc);
-    let checked = check(numbers, rows);
-    match checked {
-        RowCheck::Refused(refusal) => refused(packet, refusal.number, refusal.place),
-        RowCheck::Sound(_) => accepted(afresh(numbers, rows)),
-    }
-}
-
-// ---- what is asked of a record
-
-// How many rows there are.
-pub fn rows_of(packet: Record) -> usize
-    ensures { Asked (λ (p : Record). p.rows) length packet result }
-{
-    packet.rows
-}
-
-// Their octets on the wire.
-pub fn octets_of(packet: Record) -> usize
-    ensures { Asked (λ (p : Record). p.octets) (sum_of wire_octets) packet result }
-{
-    packet.octets
-}
-
-// Their ticks.
-pub fn ticks_of(packet: Record) -> Ticks
-    ensures { Asked (λ (p : Record). ticks_in p.ticks) (λ (xs : List Row). ticks_in (sum_of ticks xs)) packet result }
-{
-    Ticks(packet.ticks as usize)
-}
-
-fn missing() -> Refusal
-    ensures { result ≡ refusal 12 0 }
-{
-    Refusal {
-        number: refusal::UNKNOWN,
-        place: 0,
-    }
-}
-
-// The row at an index.
-pub fn row_at(packet: Record, i: usize) -> RowAsked
-    ensures { AskedAt row_report (row_held i) (row_in i) packet result }
-{
-    if packet.rows <= i {
-        return RowAsked::Refused(missing());
-    }
-    if MOST_ROWS <= i {
-        return RowAsked::Refused(missing());
-    }
-    RowAsked::Is(RowNumbers {
-        kind: packet.numbers[2 * i],
-        tc: packet.numbers[2 * i + 1],
-    })
-}
-
-// Where the row at an index starts on the wire.
-pub fn start_at(packet: Record, i: usize) -> StartAsked
-    ensures { AskedAt start_report (start_held i) (start_in i) packet result }
-{
-    if packet.rows <= i {
-        return StartAsked::Refused(missing());
-    }
-    if MOST_ROWS <= i {
-        return StartAsked::Refused(missing());
-    }
-    StartAsked::At(packet.starts[i] as usize)
+    Kind::try_from(number).map_or(0, |kind| wire::ticks_of_rate(wire::entry_of(kind).rate))
 }

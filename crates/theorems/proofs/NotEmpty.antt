@@ -3,19 +3,19 @@ use mathlib.Core.Path.{◌≡◌, refl, sym, ap, ◌∙◌, subst}
 use mathlib.Core.Bool.{Bool, cond}
 use mathlib.Core.Logic.{◌⊎◌, inl, inr}
 use mathlib.Core.List.{List, [], ◌∷◌}
-use mathlib.Core.Option.{Option, some}
-use mathlib.Core.Option as option
 use Prim.Native.Nat.{ℕ, zero, suc, ◌<◌}
 use native.Mathlib.Omega.{arith}
 use lib.Dec.{T, eqb, ltb, eqb→eq, ltb→lt}
 use lib.ListN.{length}
 use borrow.Author.Tests.{eq-eqb, ne_eqb}
-use Rattle.refusal.specs.Report.{Report}
+use Rattle.refusal.specs.Report.{Report, report_of}
 use Rattle.refusal.specs.Report as report
+use Rattle.std.specs.Prelude.{Result, Option, Some, None}
+use Rattle.refusal.specs.declared.Refusal.{Refusal}
 use Rattle.octets.specs.Octet.{Octets}
 use Rattle.wire.specs.Frame.{Frame, table, framing_of, agreed_rate, row, count_in, ticks_of_rate, Legal, octets_of, rows_of}
 use Rattle.wire.specs.Walk.{Walk, at, read_of}
-use Rattle.wire.specs.Answers.{walk_report}
+use Rattle.wire.specs.Answers.{walk_report, nothing}
 use Rattle.wire.specs.declared.Session.{Session}
 use Rattle.wire.specs.declared.Framing.{Framing}
 use Rattle.wire.specs.declared.Framing.TheVariants.{Unframed, Framed2400, Framed600}
@@ -26,10 +26,9 @@ use Rattle.wire.proofs.TableLaws.{at_kind, same_number}
 use Rattle.wire.proofs.Rates.{either}
 use Rattle.wire.proofs.Ranges.{frames_most}
 use Rattle.wire.proofs.Meaning.{Accepted, Meaning, accepted, denied, meaning, reads_it}
-use Rattle.reader.specs.Reading.{reading_report, read_in}
+use Rattle.reader.specs.Reading.{read_in}
 use Rattle.reader.specs.Promise.{Reads}
-use Rattle.reader.specs.declared.Reading.{Reading}
-use Rattle.clock.specs.Time.{ticks_in, ticks_of, time_in, packet_report}
+use Rattle.clock.specs.Time.{ticks_in, ticks_of, time_in}
 use Rattle.clock.specs.declared.Ticks.{Ticks}
 use Rattle.listing.specs.Line.{payload_line}
 use Rattle.listing.proofs.Distinct.{refused_not_empty, frames_not_empty}
@@ -98,12 +97,12 @@ module _ (p : List ℕ) (o : Octets p) (some-octets : p ≡ [] → ⊥) where
 
       go : (u : Walk) → read_of Unframed p ≡ u → Meaning Unframed p u → payload_line n p ≡ payload_line m [] → ⊥
       go _ q (accepted a) = shown a.fs q a.legal (frames Unframed a)
-      go _ q (denied x d) = refused_not_empty p n m x.number x.place d.behind q
+      go _ q (denied x d) = refused_not_empty p n m x.reason x.place d.behind q
 
   -- only comfort noise lasts nothing
-  time_tells : (ses : Session) (fr : Framing) → framing_of ses ≡ some fr → (NoiseAlone fr p → ⊥) → TimeTells ses p
+  time_tells : (ses : Session) (fr : Framing) → framing_of ses ≡ Some fr → (NoiseAlone fr p → ⊥) → TimeTells ses p
   time_tells ses fr h none other gr k a e w v q =
-      let z : packet_report e ≡ report.accepted (ticks_in 0) = v.ticks gr k [] (empty_legal gr) refl in
+      let z : report_of (ticks_in 0) e ≡ report.accepted (ticks_in 0) = v.ticks gr k [] (empty_legal gr) refl in
       let s = w.accepted fr h (ap (λ (x : Report Ticks). x.number) (q ∙ z)) in
       let t : ticks_of s.0 ≡ 0 = ap (λ (x : Report Ticks). x.value.0) (sym (w.ticks fr h s.0 s.1 s.2) ∙ q ∙ z) in
       go s.0 s.1 s.2 t
@@ -116,17 +115,17 @@ module _ (p : List ℕ) (o : Octets p) (some-octets : p ≡ [] → ⊥) where
           none (f, y.0, subst (Legal fr) c l, ap (octets_of fr) (sym c) ∙ g)
 
 -- an agreed rate that is refused
-module _ (ses : Session) (q : framing_of ses ≡ option.none) (p : List ℕ) where
-  rate_reading : (r b r' b' : List ℕ) (a : Reading) → Reads ses p r b a r' b' → NotReadEmpty (reading_report a)
-  rate_reading r b r' b' a g = reading_tells (reading_report a) (λ z. omega (arith, sym z ∙ twelve))
+module _ (ses : Session) (q : framing_of ses ≡ None) (p : List ℕ) where
+  rate_reading : (r b r' b' : List ℕ) (a : Result Summary Refusal) → Reads ses p r b a r' b' → NotReadEmpty (report_of nothing a)
+  rate_reading r b r' b' a g = reading_tells (report_of nothing a) (λ z. omega (arith, sym z ∙ twelve))
     where
-      twelve : (reading_report a).number ≡ 12
-      twelve = ap (λ (x : Report Summary). x.number) g.numbers ∙ ap (λ (m : Option Framing). (reading_report (read_in m p r b).answer).number) q
+      twelve : (report_of nothing a).number ≡ 12
+      twelve = ap (λ (x : Report Summary). x.number) g.numbers ∙ ap (λ (m : Option Framing). (report_of nothing (read_in m p r b).answer).number) q
 
   rate_time : TimeTells ses p
   rate_time other gr k a e w v d =
       let z = ap (λ (x : Report Ticks). x.number) (sym w.numbers ∙ d ∙ v.ticks gr k [] (empty_legal gr) refl) in
-      omega (arith, sym (ap (λ (m : Option Framing). (packet_report (time_in m p)).number) q) ∙ z)
+      omega (arith, sym (ap (λ (m : Option Framing). (report_of (ticks_in 0) (time_in m p)).number) q) ∙ z)
 
 -- `00 A0`
 noise_frames : List Frame
@@ -162,7 +161,7 @@ pub refused_is_not_empty : RefusedIsNotEmpty
 refused_is_not_empty = record {
   octets = λ ses fr h p o none.
       let t = refused_some fr p none in (
-        λ r b r' b' a g. reading_tells (reading_report a) (λ z. let s = (g.demand fr h).accepted z in none s.0 s.1 s.2),
+        λ r b r' b' a g. reading_tells (report_of nothing a) (λ z. let s = (g.demand fr h).accepted z in none s.0 s.1 s.2),
         walk_tells p o t fr,
         count_tells p o t,
         time_tells p o t ses fr h (λ x. none (x.0 ∷ []) x.2 x.3),
@@ -171,7 +170,7 @@ refused_is_not_empty = record {
   rate = λ ses q p. (rate_reading ses q p, rate_time ses q p);
   room = λ ses fr h p o r b r' b' a g z.
       let t : p ≡ [] → ⊥ = λ e. z ((g.demand fr h).empty e).0 in (
-        reading_tells (reading_report a) z,
+        reading_tells (report_of nothing a) z,
         walk_tells p o t fr,
         count_tells p o t,
         line_tells p o t,

@@ -84,7 +84,7 @@ journals_are_exact = record {
   once = λ xs es fs o q r s. one_reading xs r s;
   whole = λ xs o es r. let h = replay_sound xs o es whole r in (h.legal, whole_journal xs o es h);
   unique = one_list;
-  refused = λ xs o es k p some r. let h = replay_sound xs o es (record { number = k; place = p }) r in (h.legal, refused_journal xs o es k p some h);
+  refused = λ xs o es k p Some r. let h = replay_sound xs o es (record { number = k; place = p }) r in (h.legal, refused_journal xs o es k p Some h);
   written = legal_written;
   accepted = written_legal;
 }

@@ -1,21 +1,18 @@
 -- "0 is the empty payload and nothing else": what is answered of a refused payload, in any session, is never what is answered of an empty one in
 -- any legal session. (In a session of another rate the empty payload is refused too.) Count and line work as not agreed.
-use Rattle.std.specs.Prelude.{◌≡◌, List, [], ◌∷◌, ℕ, ℤ}
-use Rattle.std.proofs.Math.Option.{none, some}
-use Rattle.refusal.specs.Report.{Report}
+use Rattle.std.specs.Prelude.{◌≡◌, List, [], ◌∷◌, ℕ, ℤ, Result, Some, None}
+use Rattle.refusal.specs.Report.{Report, report_of}
+use Rattle.refusal.specs.declared.Refusal.{Refusal}
+use Rattle.clock.specs.declared.Ticks.{Ticks}
 use Rattle.octets.specs.Octet.{Octets}
 use Rattle.wire.specs.Frame.{Frame, framing_of, Legal, octets_of}
-use Rattle.wire.specs.Answers.{walked_report, Walks}
+use Rattle.wire.specs.Answers.{nothing, Walks}
 use Rattle.wire.specs.declared.Session.{Session}
 use Rattle.wire.specs.declared.Framing.{Framing}
 use Rattle.wire.specs.declared.Kind.TheVariants.{ComfortNoise}
 use Rattle.wire.specs.declared.Summary.{Summary}
-use Rattle.wire.specs.declared.Walked.{Walked}
-use Rattle.reader.specs.Reading.{reading_report}
 use Rattle.reader.specs.Promise.{Reads}
-use Rattle.reader.specs.declared.Reading.{Reading}
-use Rattle.clock.specs.Time.{packet_report, PacketTime}
-use Rattle.clock.specs.declared.PacketTicks.{PacketTicks}
+use Rattle.clock.specs.Time.{PacketTime, ticks_in}
 use Rattle.listing.specs.Line.{payload_line}
 use Rattle.moult.specs.Promises.{Counted}
 
@@ -25,11 +22,11 @@ NoneGives fr p = (fs : List Frame) → Legal fr fs → octets_of fr fs ≡ p →
 
 -- no reading of the empty payload, whatever is lent for it, has these numbers
 abbrev pub NotReadEmpty : Report Summary → Type 0
-NotReadEmpty x = (ses : Session) (fr : Framing) → framing_of ses ≡ some fr → (s c s' c' : List ℕ) (e : Reading) → Reads ses [] s c e s' c' → x ≡ reading_report e → ⊥
+NotReadEmpty x = (ses : Session) (fr : Framing) → framing_of ses ≡ Some fr → (s c s' c' : List ℕ) (e : Result Summary Refusal) → Reads ses [] s c e s' c' → x ≡ report_of nothing e → ⊥
 
 -- the walks of p and of the empty payload have other numbers
 abbrev pub WalkTells : Framing → List ℕ → Type 0
-WalkTells fr p = (gr : Framing) (a e : Walked) → Walks fr p a → Walks gr [] e → walked_report a ≡ walked_report e → ⊥
+WalkTells fr p = (gr : Framing) (a e : Result Summary Refusal) → Walks fr p a → Walks gr [] e → report_of nothing a ≡ report_of nothing e → ⊥
 
 -- their counts differ
 abbrev pub CountTells : List ℕ → Type 0
@@ -37,8 +34,8 @@ CountTells p = (a e : ℤ) → Counted p a → Counted [] e → a ≡ e → ⊥
 
 -- their times differ
 abbrev pub TimeTells : Session → List ℕ → Type 0
-TimeTells ses p = (other : Session) (gr : Framing) → framing_of other ≡ some gr
-    → (a e : PacketTicks) → PacketTime ses p a → PacketTime other [] e → packet_report a ≡ packet_report e → ⊥
+TimeTells ses p = (other : Session) (gr : Framing) → framing_of other ≡ Some gr
+    → (a e : Result Ticks Refusal) → PacketTime ses p a → PacketTime other [] e → report_of (ticks_in 0) a ≡ report_of (ticks_in 0) e → ⊥
 
 -- their lines differ, whatever the lines' numbers
 abbrev pub LineTells : List ℕ → Type 0
@@ -51,15 +48,15 @@ NoiseAlone fr p = (f : Frame) × (f.row.kind ≡ ComfortNoise) × Legal fr (f �
 -- no answer of a refused payload is one of an empty payload
 pub record RefusedIsNotEmpty : Type 0 where
   -- refused for its octets: whatever is lent, with no exception
-  pub octets : (ses : Session) (fr : Framing) → framing_of ses ≡ some fr → (p : List ℕ) → Octets p → NoneGives fr p
-      → ((r b r' b' : List ℕ) (a : Reading) → Reads ses p r b a r' b' → NotReadEmpty (reading_report a)) × WalkTells fr p × CountTells p × TimeTells ses p × LineTells p
+  pub octets : (ses : Session) (fr : Framing) → framing_of ses ≡ Some fr → (p : List ℕ) → Octets p → NoneGives fr p
+      → ((r b r' b' : List ℕ) (a : Result Summary Refusal) → Reads ses p r b a r' b' → NotReadEmpty (report_of nothing a)) × WalkTells fr p × CountTells p × TimeTells ses p × LineTells p
   -- refused for the session's rate: as well, whatever the payload
-  pub rate : (ses : Session) → framing_of ses ≡ none → (p : List ℕ)
-      → ((r b r' b' : List ℕ) (a : Reading) → Reads ses p r b a r' b' → NotReadEmpty (reading_report a)) × TimeTells ses p
+  pub rate : (ses : Session) → framing_of ses ≡ None → (p : List ℕ)
+      → ((r b r' b' : List ℕ) (a : Result Summary Refusal) → Reads ses p r b a r' b' → NotReadEmpty (report_of nothing a)) × TimeTells ses p
   -- refused for want of room: as well, but for the time of comfort noise alone, which lasts 0 ticks as the empty payload does; time asks for no room
-  pub room : (ses : Session) (fr : Framing) → framing_of ses ≡ some fr → (p : List ℕ) → Octets p
-      → (r b r' b' : List ℕ) (a : Reading) → Reads ses p r b a r' b' → ((reading_report a).number ≡ 0 → ⊥)
-      → NotReadEmpty (reading_report a) × WalkTells fr p × CountTells p × LineTells p × ((NoiseAlone fr p → ⊥) → TimeTells ses p)
+  pub room : (ses : Session) (fr : Framing) → framing_of ses ≡ Some fr → (p : List ℕ) → Octets p
+      → (r b r' b' : List ℕ) (a : Result Summary Refusal) → Reads ses p r b a r' b' → ((report_of nothing a).number ≡ 0 → ⊥)
+      → NotReadEmpty (report_of nothing a) × WalkTells fr p × CountTells p × LineTells p × ((NoiseAlone fr p → ⊥) → TimeTells ses p)
   -- the exception is there
-  pub noise : (ses other : Session) (fr gr : Framing) → framing_of ses ≡ some fr → framing_of other ≡ some gr
-      → (a e : PacketTicks) → PacketTime ses (0 ∷ 0xa0 ∷ []) a → PacketTime other [] e → packet_report a ≡ packet_report e
+  pub noise : (ses other : Session) (fr gr : Framing) → framing_of ses ≡ Some fr → framing_of other ≡ Some gr
+      → (a e : Result Ticks Refusal) → PacketTime ses (0 ∷ 0xa0 ∷ []) a → PacketTime other [] e → report_of (ticks_in 0) a ≡ report_of (ticks_in 0) e

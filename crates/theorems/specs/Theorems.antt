@@ -1,26 +1,22 @@
 -- What holds beside the promises of single functions, a record for each topic; proofs/Theorems.antt has one value of each.
-use Rattle.std.specs.Prelude.{◌≡◌, List, ◌++◌, map, ℕ, ◌+◌, ◌*◌, ◌≤◌, ℤ, pos, neg_ℤ, length, take, drop}
-use Rattle.std.proofs.Math.Option.{Option, some}
-use Rattle.refusal.specs.Numbers.{long_count_short_range}
-use Rattle.refusal.specs.Report.{accepted}
+use Rattle.std.specs.Prelude.{◌≡◌, List, ◌++◌, map, ℕ, ◌+◌, ◌*◌, ◌≤◌, ℤ, pos, neg_ℤ, length, take, drop, Result, Ok, Option, Some}
+use Rattle.refusal.specs.Report.{accepted, report_of}
+use Rattle.refusal.specs.declared.Reason.TheVariants.{LongCountShortRange}
+use Rattle.refusal.specs.declared.Reason.{Reason}
+use Rattle.refusal.specs.declared.Refusal.{Refusal}
+use Rattle.refusal.specs.Numbers.{number_of}
+use Rattle.clock.specs.declared.Ticks.{Ticks}
 use Rattle.octets.specs.Octet.{Octets}
 use Rattle.wire.specs.Frame.{Frame, Legal, octets_of}
 use Rattle.wire.specs.Walk.{at, read_of}
-use Rattle.wire.specs.Answers.{ending_report, walked_report, Identified, Walks}
+use Rattle.wire.specs.Answers.{nothing, ending_report, Identified, Walks}
 use Rattle.wire.specs.declared.Session.{Session}
 use Rattle.wire.specs.declared.Framing.{Framing}
 use Rattle.wire.specs.declared.Framing.TheVariants.{Unframed}
-use Rattle.wire.specs.declared.Ending.{Ending as Named}
-use Rattle.wire.specs.declared.Walked.{Walked}
-use Rattle.reader.specs.Reading.{reading_report}
 use Rattle.reader.specs.Promise.{Reads}
 use Rattle.reader.specs.Bench.{Gives, gives_of, payloads}
-use Rattle.reader.specs.declared.Reading.{Reading}
-use Rattle.writer.specs.Answers.{writing_report}
 use Rattle.writer.specs.Promise.{Writes}
-use Rattle.writer.specs.declared.Writing.{Writing}
-use Rattle.clock.specs.Time.{millis_in, ptime_of, packet_report, PacketTime}
-use Rattle.clock.specs.declared.PacketTicks.{PacketTicks}
+use Rattle.clock.specs.Time.{millis_in, ptime_of, PacketTime, ticks_in}
 use Rattle.views.specs.View.{shown_of}
 use Rattle.fmtp.specs.Settings.{IsSettings}
 use Rattle.fmtp.specs.Text.{text_of}
@@ -28,16 +24,11 @@ use Rattle.fmtp.specs.Means.{Means}
 use Rattle.fmtp.specs.Meaning.{meaning}
 use Rattle.fmtp.specs.Answers.{Reads as ReadsText, Writes as WritesText}
 use Rattle.fmtp.specs.declared.Settings.{Settings}
-use Rattle.fmtp.specs.declared.Parsed.{Parsed}
-use Rattle.fmtp.specs.declared.Parsed.TheVariants.{Accepted}
-use Rattle.fmtp.specs.declared.Written.TheVariants as written
 use Rattle.fields.specs.Table.{Table, fields_of, consecutive}
 use Rattle.fields.specs.RoundTrip.{EachOnce, Fitting, total, RoundTrip}
 use Rattle.fields.specs.Modes.{count_of}
 use Rattle.fields.specs.Examples.{Examples}
-use Rattle.fields.specs.Answers.{unpacked_report, packed_report, Unpacks, Packs}
-use Rattle.fields.specs.declared.Unpacked.{Unpacked}
-use Rattle.fields.specs.declared.Packed.{Packed}
+use Rattle.fields.specs.Answers.{Unpacks, Packs}
 use Rattle.leb128.specs.Number.{groups_of, Within, number, short, none, head_of}
 use Rattle.leb128.specs.Possible.{Possible, Begun}
 use Rattle.journal.specs.Entry.{Entry, most_groups, top_number, entry_octets, journal_octets, AllLegal}
@@ -50,6 +41,8 @@ use Rattle.listing.specs.Listing.{Lists, Stage, run, fresh, listing}
 use Rattle.listing.specs.Answers.{Calls}
 use Rattle.listing.specs.Sample.{input, output}
 use Rattle.moult.specs.Promises.{Counted}
+use Rattle.wire.specs.declared.Row.{Row}
+use Rattle.wire.specs.declared.Summary.{Summary}
 
 -- the walk, which says which refusal is given, accepts exactly the octets of legal sequences, and finds the one that gives them: in each legal session
 pub record WalkIsExact : Type 0 where
@@ -59,24 +52,24 @@ pub record WalkIsExact : Type 0 where
 
 -- "5 is no longer given": not for the end of unread octets, and by no answer about a payload, in any session
 pub record FiveIsNotGiven : Type 0 where
-  pub end : (fr : Framing) (u : List ℕ) → Octets u → (a : Named) → Identified fr u a → (ending_report (length u) a).number ≡ long_count_short_range → ⊥
-  pub walk : (fr : Framing) (p : List ℕ) → Octets p → (a : Walked) → Walks fr p a → (walked_report a).number ≡ long_count_short_range → ⊥
-  pub reading : (ses : Session) (p : List ℕ) → Octets p → (r b r' b' : List ℕ) (a : Reading) → Reads ses p r b a r' b' → (reading_report a).number ≡ long_count_short_range → ⊥
-  pub count : (p : List ℕ) → Octets p → (a : ℤ) → Counted p a → a ≡ neg_ℤ (pos long_count_short_range) → ⊥
-  pub time : (ses : Session) (p : List ℕ) → Octets p → (a : PacketTicks) → PacketTime ses p a → (packet_report a).number ≡ long_count_short_range → ⊥
-  pub line : (p : List ℕ) → Octets p → (n m place : ℕ) → payload_line n p ≡ line_with m refused_word long_count_short_range place → ⊥
+  pub end : (fr : Framing) (u : List ℕ) → Octets u → (a : Result Row Reason) → Identified fr u a → (ending_report (length u) a).number ≡ number_of LongCountShortRange → ⊥
+  pub walk : (fr : Framing) (p : List ℕ) → Octets p → (a : Result Summary Refusal) → Walks fr p a → (report_of nothing a).number ≡ number_of LongCountShortRange → ⊥
+  pub reading : (ses : Session) (p : List ℕ) → Octets p → (r b r' b' : List ℕ) (a : Result Summary Refusal) → Reads ses p r b a r' b' → (report_of nothing a).number ≡ number_of LongCountShortRange → ⊥
+  pub count : (p : List ℕ) → Octets p → (a : ℤ) → Counted p a → a ≡ neg_ℤ (pos (number_of LongCountShortRange)) → ⊥
+  pub time : (ses : Session) (p : List ℕ) → Octets p → (a : Result Ticks Refusal) → PacketTime ses p a → (report_of (ticks_in 0) a).number ≡ number_of LongCountShortRange → ⊥
+  pub line : (p : List ℕ) → Octets p → (n m place : ℕ) → payload_line n p ≡ line_with m refused_word (number_of LongCountShortRange) place → ⊥
 
 -- "Reading and writing undo each other, both ways": of any two calls in the same session that keep the promises of `read` and `write`
 pub record ReadingUndoesWriting : Type 0 where
   -- rows ns and bodies bs were written, and the octets written are read into r and b, which have room: the rows and bodies come back, and
   -- what r and b held beyond them stays
-  pub read : (ses : Session) (ns bs out left : List ℕ) (w : Writing) → Writes ses ns bs out w left → (writing_report w).number ≡ 0
-      → (r b r' b' : List ℕ) (a : Reading) → Reads ses (take (writing_report w).value left) r b a r' b' → length ns ≤ length r → length bs ≤ length b
-      → ((reading_report a).number ≡ 0) × (r' ≡ ns ++ drop (length ns) r) × (b' ≡ bs ++ drop (length bs) b)
+  pub read : (ses : Session) (ns bs out left : List ℕ) (w : Result ℕ Refusal) → Writes ses ns bs out w left → (report_of 0 w).number ≡ 0
+      → (r b r' b' : List ℕ) (a : Result Summary Refusal) → Reads ses (take (report_of 0 w).value left) r b a r' b' → length ns ≤ length r → length bs ≤ length b
+      → ((report_of nothing a).number ≡ 0) × (r' ≡ ns ++ drop (length ns) r) × (b' ≡ bs ++ drop (length bs) b)
   -- the payload p was read, and the rows and bodies handed out are written into a buffer that has room: the payload comes back
-  pub written : (ses : Session) (p r b r' b' : List ℕ) (a : Reading) → Reads ses p r b a r' b' → (reading_report a).number ≡ 0
-      → (out left : List ℕ) (w : Writing) → Writes ses (take (2 * (reading_report a).value.frames) r') (take (reading_report a).value.octets b') out w left
-      → length p ≤ length out → (writing_report w ≡ accepted (length p)) × (left ≡ p ++ drop (length p) out)
+  pub written : (ses : Session) (p r b r' b' : List ℕ) (a : Result Summary Refusal) → Reads ses p r b a r' b' → (report_of nothing a).number ≡ 0
+      → (out left : List ℕ) (w : Result ℕ Refusal) → Writes ses (take (2 * (report_of nothing a).value.frames) r') (take (report_of nothing a).value.octets b') out w left
+      → length p ≤ length out → (report_of 0 w ≡ accepted (length p)) × (left ≡ p ++ drop (length p) out)
 
 -- "The P lines form a single table, proved by one statement": of document 01, so where framing is not agreed
 abbrev pub BenchPayloads : Type 0
@@ -94,14 +87,14 @@ ViewsJoin = (fr : Framing) (p s : List ℕ) (fs : List Frame) → Legal fr fs �
 -- setting texts
 pub record SettingsAreExact : Type 0 where
   -- what is computed of a text is what the language, said forwards, says that it means
-  pub means : (t : List ℕ) (s : Settings) → meaning t ≡ some s → Means t s
-  pub computed : (t : List ℕ) (s : Settings) → Means t s → meaning t ≡ some s
+  pub means : (t : List ℕ) (s : Settings) → meaning t ≡ Some s → Means t s
+  pub computed : (t : List ℕ) (s : Settings) → Means t s → meaning t ≡ Some s
   -- it is settings
-  pub settings : (t : List ℕ) (s : Settings) → meaning t ≡ some s → IsSettings s
+  pub settings : (t : List ℕ) (s : Settings) → meaning t ≡ Some s → IsSettings s
   -- what the reader promises of a text leaves one answer
-  pub fixed : (t : List ℕ) (r s : Parsed) → ReadsText t r → ReadsText t s → r ≡ s
+  pub fixed : (t : List ℕ) (r s : Result Settings Refusal) → ReadsText t r → ReadsText t s → r ≡ s
   -- settings that were written are read as they were
-  pub return : (s : Settings) (before after : List ℕ) (n : ℕ) (r : Parsed) → WritesText s before after (written.Octets n) → ReadsText (take n after) r → r ≡ Accepted s
+  pub return : (s : Settings) (before after : List ℕ) (n : ℕ) (r : Result Settings Refusal) → WritesText s before after (Ok n) → ReadsText (take n after) r → r ≡ Ok s
   -- "31 octets"
   pub longest : (s : Settings) → IsSettings s → length (text_of s) ≤ 31
 
@@ -113,13 +106,13 @@ pub record FieldsReturn : Type 0 where
   -- "the round trip is proved once over any list of widths with sum 54"
   pub widths : (ws : List ℕ) → total ws ≡ 54 → RoundTrip (consecutive 0 ws)
   -- a body that was unpacked comes back from its fields
-  pub body : (mode : ℕ) (body before after : List ℕ) (r : Unpacked) → Unpacks mode body before after r → (unpacked_report r).number ≡ 0 → Octets body
-      → (out left : List ℕ) (s : Packed) → Packs mode (take (count_of mode) after) out left s → 7 ≤ length out
-      → (packed_report s ≡ accepted 7) × (left ≡ body ++ drop 7 out)
+  pub body : (mode : ℕ) (body before after : List ℕ) (r : Result ℕ Refusal) → Unpacks mode body before after r → (report_of 0 r).number ≡ 0 → Octets body
+      → (out left : List ℕ) (s : Result ℕ Refusal) → Packs mode (take (count_of mode) after) out left s → 7 ≤ length out
+      → (report_of 0 s ≡ accepted 7) × (left ≡ body ++ drop 7 out)
   -- fields that were packed come back from their body
-  pub fields : (mode : ℕ) (fields out left : List ℕ) (r : Packed) → Packs mode fields out left r → (packed_report r).number ≡ 0
-      → (before after : List ℕ) (s : Unpacked) → Unpacks mode (take 7 left) before after s → count_of mode ≤ length before
-      → (unpacked_report s ≡ accepted (count_of mode)) × (after ≡ fields ++ drop (count_of mode) before)
+  pub fields : (mode : ℕ) (fields out left : List ℕ) (r : Result ℕ Refusal) → Packs mode fields out left r → (report_of 0 r).number ≡ 0
+      → (before after : List ℕ) (s : Result ℕ Refusal) → Unpacks mode (take 7 left) before after s → count_of mode ≤ length before
+      → (report_of 0 s ≡ accepted (count_of mode)) × (after ≡ fields ++ drop (count_of mode) before)
   -- the paper's three
   pub examples : Examples
 

@@ -1,265 +1,207 @@
 // The values that a text gives: `00*6` is six zeros, `(00*6 40)*2` twice the same seven octets, `5.2 1.0` four numbers.
-ghost use Rattle.std.specs.Prelude.{◌≤◌, ◌<◌, length};
+ghost use Rattle.std.specs.Prelude.{◌≤◌, ◌<◌, length, IfOk, IfSome};
 
-// How values are written: as decimal numbers, as octets of two hexadecimal digits, or as characters, of which one may be `\x`
-// and two such digits.
-#[derive(Clone, Copy)]
+use crate::malformed::Malformed;
+
+// How a word gives values: as a decimal number, or as octets of two hexadecimal digits. (One match tells them apart, which is plainer than a closure
+// in the generic function that asks.)
+#[derive(Clone, Copy, Debug, PartialEq, Eq)]
 pub(crate) enum Form {
     Numbers,
     Octets,
-    Characters,
 }
-
-// The word that goes on with the next character: none, a number, the number behind a `*`, the second digit of an octet, or
-// what stands behind a `\`.
-#[derive(Clone, Copy)]
-enum Word {
-    Nothing,
-    Number,
-    Times,
-    SecondDigit,
-    Escape,
-}
-
-// How far a text is read: the values so far, how many of the last ones a `*` repeats, the values in front of the last `(`, the
-// word that goes on, and its value so far.
-#[derive(Clone, Copy)]
-struct Scan {
-    count: usize,
-    last: usize,
-    group: usize,
-    word: Word,
-    value: usize,
-}
-
-// The count where a text is malformed, or has more values than there is room for: more than any list has.
-pub(crate) const MALFORMED: usize = usize::MAX;
 
 // The most values of a text.
 pub(crate) const MOST_VALUES: usize = 4096;
 
-// Where an octet first stands in a text; the text's length where it does not.
-pub(crate) fn find(text: &[u8], octet: u8) -> usize
-    ensures { result ≤ length text.now }
+// What may stand between words.
+const MARKS: &[u8] = b" .()*";
+
+// The text in front of the first of some octets, and what is left from there on.
+pub(crate) fn cut<'a>(text: &'a [u8], ends: &[u8]) -> (&'a [u8], &'a [u8])
+    ensures { length result.1.now ≤ length text.now }
 {
-    let mut i = 0;
-    while i < text.len() {
-        if text[i] == octet {
-            return i;
-        }
-        i += 1;
-    }
-    i
+    let end = text
+        .iter()
+        .position(|octet| ends.contains(octet))
+        .unwrap_or(text.len());
+    text.split_at(end)
 }
 
-// A digit's value; 16 for any other character.
-fn digit(x: u8) -> usize {
-    match x {
-        b'0'..=b'9' => (x - b'0') as usize,
-        b'A'..=b'F' => (x - b'A') as usize + 10,
-        b'a'..=b'f' => (x - b'a') as usize + 10,
-        _ => 16,
+// The number that decimal digits give, of none 0, where std's `parse` has an error.
+fn number(digits: &[u8]) -> Option<usize> {
+    let mut value: usize = 0;
+    for digit in digits {
+        let digit = char::from(*digit).to_digit(10)?;
+        value = value.checked_mul(10)?.checked_add(digit as usize)?;
     }
+    Some(value)
 }
 
-// ---- values into the list: each function answers how many there are then
-
-fn put(list: &mut [usize], count: usize, value: usize) -> usize {
-    if list.len() <= count {
-        return MALFORMED;
-    }
-    list[count] = value;
-    count + 1
+// The octet that two hexadecimal digits give.
+fn octet(high: u8, low: u8) -> Option<u8> {
+    let high = char::from(high).to_digit(16)?;
+    let low = char::from(low).to_digit(16)?;
+    Some((high * 16 + low) as u8)
 }
 
-// The value that stands so many before the end, once more.
-fn put_again(list: &mut [usize], count: usize, last: usize) -> usize {
-    if list.len() <= count {
-        return MALFORMED;
-    }
-    if count < last {
-        return MALFORMED;
-    }
-    let from = count - last;
-    list[count] = list[from];
-    count + 1
+// ---- values
+
+// Values that fill a list up from its front: how many there are, how many of the last ones a `*` repeats, and how many stand in front
+// of the last `(`.
+#[derive(Drop)]
+struct Filled<'a, T> {
+    list: &'a mut [T],
+    count: usize,
+    last: usize,
+    group: usize,
+    ghost in_list: { count ≤ length list.now },
+    ghost last_are_there: { last ≤ count },
+    ghost group_is_there: { group ≤ count },
 }
 
-// At most one more than a text has values.
-fn capped(n: usize) -> usize
-    ensures { result ≤ 4097 }
-{
-    if n <= MOST_VALUES {
-        return n;
-    }
-    MOST_VALUES + 1
-}
-
-// The last values, so many, until they stand there so many times.
-fn repeat(list: &mut [usize], start: usize, last: usize, times: usize) -> usize {
-    let mut count = start;
-    let mut left = capped(last) * capped(times);
-    while last < left {
-        count = put_again(list, count, last);
-        left -= 1;
-    }
-    count
-}
-
-// ---- how far a text is read
-
-fn with_count(s: Scan, count: usize, last: usize) -> Scan {
-    Scan {
-        count,
-        last,
-        group: s.group,
-        word: Word::Nothing,
-        value: 0,
-    }
-}
-
-fn with_word(s: Scan, word: Word, value: usize) -> Scan {
-    Scan {
-        count: s.count,
-        last: s.last,
-        group: s.group,
-        word,
-        value,
-    }
-}
-
-fn malformed(s: Scan) -> Scan {
-    with_count(s, MALFORMED, 0)
-}
-
-fn put_value(list: &mut [usize], s: Scan, value: usize) -> Scan {
-    with_count(s, put(list, s.count, value), 1)
-}
-
-// The word that goes on is at its end.
-fn end_word(list: &mut [usize], s: Scan) -> Scan {
-    let word = s.word;
-    match word {
-        Word::Nothing => s,
-        Word::Number => put_value(list, s, s.value),
-        Word::Times => with_count(s, repeat(list, s.count, s.last, s.value), s.last),
-        Word::SecondDigit => malformed(s),
-        Word::Escape => malformed(s),
-    }
-}
-
-// A character between words.
-fn mark(s: Scan, x: u8) -> Scan {
-    if x == b' ' || x == b'.' {
-        return s;
-    }
-    if x == b'*' {
-        return with_word(s, Word::Times, 0);
-    }
-    if x == b'(' {
-        return Scan {
-            count: s.count,
+impl<'a, T: Copy> Filled<'a, T> {
+    fn new(list: &'a mut [T]) -> Self {
+        Filled {
+            list,
+            count: 0,
             last: 0,
-            group: s.count,
-            word: Word::Nothing,
-            value: 0,
+            group: 0,
+        }
+    }
+
+    fn push(&mut self, value: T) -> Result<(), Malformed> {
+        *self.list.get_mut(self.count).ok_or(Malformed)? = value;
+        self.count += 1;
+        self.last = 1;
+        Ok(())
+    }
+
+    // The last values, until they stand there so many times; where that is none, they stay.
+    fn repeat(&mut self, times: usize) -> Result<(), Malformed> {
+        let more = self
+            .last
+            .checked_mul(times.saturating_sub(1))
+            .ok_or(Malformed)?;
+        let end = self.count.checked_add(more).ok_or(Malformed)?;
+        let list = self.list.get_mut(..end).ok_or(Malformed)?;
+        for to in self.count..end {
+            list[to] = list[to - self.last];
+        }
+        self.count = end;
+        Ok(())
+    }
+
+    fn open_group(&mut self) {
+        self.group = self.count;
+        self.last = 0;
+    }
+
+    fn close_group(&mut self) {
+        self.last = self.count - self.group;
+    }
+
+    fn values(self) -> &'a [T] {
+        let Filled { list, count, .. } = self;
+        &list[..count]
+    }
+}
+
+impl<'a, T: Copy + TryFrom<usize>> Filled<'a, T>
+where
+    T::Error: Drop,
+{
+    fn push_number(&mut self, number: usize) -> Result<(), Malformed> {
+        self.push(T::try_from(number).map_err(|_| Malformed)?)
+    }
+
+    fn push_octets(&mut self, word: &[u8]) -> Result<(), Malformed> {
+        let (pairs, []) = word.as_chunks::<2>() else {
+            return Err(Malformed);
         };
-    }
-    if x == b')' && s.group <= s.count {
-        return with_count(s, s.count, s.count - s.group);
-    }
-    malformed(s)
-}
-
-// One more digit of a number.
-fn with_decimal(s: Scan, word: Word, digit: usize) -> Scan
-    requires { digit < 10 }
-{
-    if (usize::MAX - digit) / 10 < s.value {
-        return malformed(s);
-    }
-    with_word(s, word, s.value * 10 + digit)
-}
-
-// The first or the second digit of an octet.
-fn put_digit(list: &mut [usize], s: Scan, digit: usize) -> Scan
-    requires { digit < 16 }
-{
-    let word = s.word;
-    if let Word::SecondDigit = word {
-        return put_value(list, s, s.value % 16 * 16 + digit);
-    }
-    with_word(s, Word::SecondDigit, digit)
-}
-
-// ---- the next character, in each form
-
-fn step_number(list: &mut [usize], s: Scan, x: u8) -> Scan {
-    let d = digit(x);
-    if 9 < d {
-        return mark(end_word(list, s), x);
-    }
-    let word = s.word;
-    if let Word::Times = word {
-        return with_decimal(s, Word::Times, d);
-    }
-    with_decimal(s, Word::Number, d)
-}
-
-fn step_octet(list: &mut [usize], s: Scan, x: u8) -> Scan {
-    let word = s.word;
-    if let Word::Times = word {
-        return step_number(list, s, x);
-    }
-    let d = digit(x);
-    if 15 < d {
-        return mark(end_word(list, s), x);
-    }
-    put_digit(list, s, d)
-}
-
-fn step_character(list: &mut [usize], s: Scan, x: u8) -> Scan {
-    let word = s.word;
-    if let Word::Nothing = word {
-        if x == b' ' {
-            return s;
+        for [high, low] in pairs {
+            let octet = octet(*high, *low).ok_or(Malformed)?;
+            self.push_number(usize::from(octet))?;
         }
-        if x == b'\\' {
-            return with_word(s, Word::Escape, 0);
+        Ok(())
+    }
+
+    fn push_word(&mut self, word: &[u8], form: Form) -> Result<(), Malformed> {
+        match form {
+            Form::Numbers => self.push_number(number(word).ok_or(Malformed)?),
+            Form::Octets => self.push_octets(word),
         }
-        return put_value(list, s, x as usize);
-    }
-    if x == b'x' {
-        return s;
-    }
-    let d = digit(x);
-    if 15 < d {
-        return malformed(s);
-    }
-    put_digit(list, s, d)
-}
-
-fn step(list: &mut [usize], s: Scan, x: u8, form: Form) -> Scan {
-    match form {
-        Form::Numbers => step_number(list, s, x),
-        Form::Octets => step_octet(list, s, x),
-        Form::Characters => step_character(list, s, x),
     }
 }
 
-// Fills in the values that a text gives, and answers how many they are.
-pub(crate) fn values(list: &mut [usize], text: &[u8], form: Form) -> usize {
-    let mut s = Scan {
-        count: 0,
-        last: 0,
-        group: 0,
-        word: Word::Nothing,
-        value: 0,
-    };
-    let mut i = 0;
-    while i < text.len() {
-        s = step(list, s, text[i], form);
-        i += 1;
+// Fills in the values that a text gives, and answers them.
+pub(crate) fn values<'a, T: Copy + TryFrom<usize>>(
+    list: &'a mut [T],
+    text: &[u8],
+    form: Form,
+) -> Result<&'a [T], Malformed>
+where
+    T::Error: Drop,
+{
+    let mut filled = Filled::new(list);
+    let mut rest = text;
+    loop {
+        let (word, behind) = cut(rest, MARKS);
+        if !word.is_empty() {
+            filled.push_word(word, form)?;
+        }
+        let [mark, behind @ ..] = behind else {
+            return Ok(filled.values());
+        };
+        rest = behind;
+        match mark {
+            b'(' => filled.open_group(),
+            b')' => filled.close_group(),
+            b'*' => {
+                let (times, behind) = cut(rest, MARKS);
+                filled.repeat(number(times).ok_or(Malformed)?)?;
+                rest = behind;
+            }
+            _ => {}
+        }
     }
-    end_word(list, s).count
+}
+
+// ---- characters
+
+// The next digit of a character that is written as its octet, and the text behind it. Each `x` in front of it is skipped.
+fn escaped_digit(text: &[u8]) -> Option<(u8, &[u8])>
+    ensures { IfSome result (λ r. length r.1.now ≤ length text.now) }
+{
+    let at = text.iter().position(|octet| *octet != b'x')?;
+    Some((text[at], &text[at + 1..]))
+}
+
+// The character that stands behind a `\`, and the text behind it.
+fn escaped(text: &[u8]) -> Option<(u8, &[u8])>
+    ensures { IfSome result (λ r. length r.1.now ≤ length text.now) }
+{
+    let (high, text) = escaped_digit(text)?;
+    let (low, text) = escaped_digit(text)?;
+    Some((octet(high, low)?, text))
+}
+
+// Fills in the characters of a text without its spaces, and answers them. One may be written as `\x` and two hexadecimal digits.
+pub(crate) fn characters<'a>(list: &'a mut [u8], text: &[u8]) -> Result<&'a [u8], Malformed> {
+    let mut filled = Filled::new(list);
+    let mut rest = text;
+    while let [first, behind @ ..] = rest {
+        rest = behind;
+        let character = match first {
+            b' ' => continue,
+            b'\\' => {
+                let (character, behind) = escaped(rest).ok_or(Malformed)?;
+                rest = behind;
+                character
+            }
+            _ => *first,
+        };
+        filled.push(character)?;
+    }
+    Ok(filled.values())
 }

@@ -1,16 +1,14 @@
 // The ptime of frames of a rate.
+use crate::malformed::Malformed;
 use crate::print;
-use clock::PacketMillis;
 use std::io::Stdout;
 
-pub(crate) fn time(stdout: Stdout, head: &[usize]) {
-    if head.len() != 2 || 4294967295 < head[0] {
-        print::malformed(stdout);
-        return;
-    }
-    let lasts = clock::ptime(head[0] as u32, head[1]);
-    match lasts {
-        PacketMillis::Refused(r) => print::refused(stdout, r),
-        PacketMillis::Lasts(millis) => print::number(stdout, millis.0),
-    }
+pub(crate) fn time(stdout: Stdout, head: &[usize]) -> Result<(), Malformed> {
+    let [rate, frames] = *head else {
+        return Err(Malformed);
+    };
+    let rate = u32::try_from(rate)?;
+    let lasts = clock::ptime(rate, frames).map(|millis| millis.0);
+    print::number_or_refused(stdout, lasts);
+    Ok(())
 }

@@ -1,58 +1,35 @@
 // Payloads that are written.
-ghost use Rattle.std.specs.Prelude.{◌≤◌};
-
-use crate::lists::{BEHIND, MOST_PAYLOAD};
+use crate::lists::{BEHIND, MOST_PAYLOAD, MOST_ROOM};
+use crate::malformed::Malformed;
 use crate::text::Form;
-use crate::{lists, print};
+use crate::{lists, print, text};
 use std::io::Stdout;
 use wire::Session;
-use writer::Writing;
 
-// The most numbers of rows, and the most room that is lent.
+// The most numbers of rows that are lent.
 const MOST_NUMBERS: usize = 750;
 
-const MOST_OCTETS: usize = 1410;
-
-fn write_into(
+pub(crate) fn write(
     stdout: Stdout,
     session: Session,
-    rows: &[u16],
-    bodies: &[u8],
-    out: &mut [u8],
-    octets: usize,
-)
-    requires { octets ≤ 1410 }
-{
-    let answer = writer::write(session, rows, bodies, lists::front_room(out, octets));
-    match answer {
-        Writing::Refused(r) => print::refused(stdout, r),
-        Writing::Written(n) => print::number(stdout, n),
+    head: &[usize],
+    data: &[u8],
+) -> Result<(), Malformed> {
+    let [room, rows @ ..] = head else {
+        return Err(Malformed);
+    };
+    let room = *room;
+    if MOST_ROOM < room {
+        return Err(Malformed);
     }
+    let mut numbers = [0; MOST_NUMBERS];
+    let numbers = lists::converted(&mut numbers, rows)?;
+    let mut bodies = [0; MOST_PAYLOAD];
+    let bodies = text::values(&mut bodies, data, Form::Octets)?;
+    let mut out = [0xee; MOST_ROOM + BEHIND];
+    let answer = writer::write(session, numbers, bodies, &mut out[..room]);
+    print::number_or_refused(stdout, answer);
     print::say(stdout, b";");
-    print::octets(stdout, lists::front(out, octets + BEHIND));
-}
-
-pub(crate) fn write(stdout: Stdout, session: Session, head: &[usize], data: &[u8]) {
-    if head.len() < 1 {
-        print::malformed(stdout);
-        return;
-    }
-    let octets = head[0];
-    let mut rows = [0u16; MOST_NUMBERS];
-    let n = lists::put_numbers(&mut rows, &head[1..]);
-    let mut bodies = [0u8; MOST_PAYLOAD];
-    let m = lists::octets(&mut bodies, data, Form::Octets);
-    if MOST_NUMBERS < n || MOST_PAYLOAD < m || MOST_OCTETS < octets {
-        print::malformed(stdout);
-        return;
-    }
-    let mut out = [0xeeu8; MOST_OCTETS + BEHIND];
-    write_into(
-        stdout,
-        session,
-        &rows[0..n],
-        lists::front(&bodies, m),
-        &mut out,
-        octets,
-    );
+    print::octets(stdout, &out[..room + BEHIND]);
+    Ok(())
 }

@@ -2,7 +2,7 @@
 use mathlib.Core.Path.{◌≡◌, refl, sym, ap, ◌∙◌, subst}
 use mathlib.Core.Bool.{Bool, true, false, cond, not}
 use mathlib.Core.List.{List, [], ◌∷◌, ◌++◌, append_assoc, append-nil}
-use mathlib.Core.Option.{some}
+use Rattle.std.specs.Prelude.{Option, Some, None}
 use Prim.Native.Nat.{ℕ, suc, ◌+◌, ◌-◌, ◌≤◌}
 use native.Mathlib.Omega.{arith}
 use native.Mathlib.Nat.{add-zero}
@@ -18,19 +18,9 @@ use Rattle.wire.proofs.TableLaws.{bounds}
 use Rattle.wire.proofs.Complete.{octets_snoc, Snoc, none, snoc, from_end}
 use Rattle.octets.specs.Part.{Part, empty_part}
 use Rattle.views.specs.View.{span, empty_span, is_augmented, augmentation_at, location_of, location_by, HasRow, NoRow, part_at, augmentation_of, frame_or, AugmentationView, FrameView, alone, shown_of}
-use Rattle.views.specs.declared.Span.{Span}
 use Rattle.views.specs.declared.Location.{Location}
-use Rattle.views.specs.declared.Location.TheVariants.{At, Missing}
 use Rattle.wire.proofs.FrameAtEnd.{legal_frame, frame_octets, frame_long}
 use Rattle.views.proofs.RowLocation.{located, locates, in_framing}
-
--- a span of a list, as it is taken from its start to its end
-pub taken : {A : Type 0} (p : Part A) (x : Span)
-    → record { block = p.block; start = x.start + p.start; octets = take (x.start + x.length - x.start) (drop x.start p.octets) } ≡ part_at x p
-taken p x =
-    let m : x.start + p.start ≡ p.start + x.start = omega arith in
-    let n : x.start + x.length - x.start ≡ x.length = omega arith in
-    rw (m, n)
 
 -- ---- octets of one frame among the others
 
@@ -86,11 +76,11 @@ module _ {A : Type 0} (fr : Framing) (row : ℕ) (p : Part A) where
   module _ (gs : List Frame) (f : Frame) (h : HasRow fr p.octets row gs f) where
     pub frame_shown : (s : Part A) → frame_or (location_of (read_of fr p.octets) row) p s ≡ record { block = p.block; start = p.start + length (octets_of fr gs); octets = wire fr f }
     frame_shown s =
-        ap (λ (x : Location). frame_or x p s) (located fr p.octets row gs f h)
+        ap (λ (x : Option Location). frame_or x p s) (located fr p.octets row gs f h)
         ∙ ap (λ (y : List ℕ). record { block = p.block; start = p.start + length (octets_of fr gs); octets = y }) (own_octets fr p.octets row gs f h)
 
     span_shown : augmentation_of (location_of (read_of fr p.octets) row) p ≡ part_at (augmentation_at (length (octets_of fr gs)) (table f.row.kind) f.row.tc) p
-    span_shown = ap (λ (x : Location). augmentation_of x p) (located fr p.octets row gs f h)
+    span_shown = ap (λ (x : Option Location). augmentation_of x p) (located fr p.octets row gs f h)
 
     augmentation_shown : is_augmented (table f.row.kind) ≡ true
         → augmentation_of (location_of (read_of fr p.octets) row) p
@@ -116,17 +106,17 @@ module _ {A : Type 0} (fr : Framing) (row : ℕ) (p : Part A) where
 -- ---- in a session
 
 module _ {A : Type 0} (ses : Session) (row : ℕ) (p : Part A) (o : Octets p.octets) where
-  is_in_lem : {fr : Framing} → framing_of ses ≡ some fr → location_by (framing_of ses) p.octets row ≡ location_of (read_of fr p.octets) row
+  is_in_lem : {fr : Framing} → framing_of ses ≡ Some fr → location_by (framing_of ses) p.octets row ≡ location_of (read_of fr p.octets) row
   is_in_lem = in_framing ses p.octets row
 
-  missing : (fr : Framing) → framing_of ses ≡ some fr → NoRow fr p.octets row → location_by (framing_of ses) p.octets row ≡ Missing
+  missing : (fr : Framing) → framing_of ses ≡ Some fr → NoRow fr p.octets row → location_by (framing_of ses) p.octets row ≡ None
   missing = (locates ses p.octets row o refl).missing
 
   pub frame_view : (s r : Part A) → r ≡ frame_or (location_by (framing_of ses) p.octets row) p s → FrameView ses row p s r
   frame_view s r e = record {
     answer = e;
-    shown = λ fr k gs f h. e ∙ ap (λ (x : Location). frame_or x p s) (is_in_lem k) ∙ frame_shown fr row p gs f h s;
-    missing = λ fr k n. e ∙ ap (λ (x : Location). frame_or x p s) (missing fr k n);
+    shown = λ fr k gs f h. e ∙ ap (λ (x : Option Location). frame_or x p s) (is_in_lem k) ∙ frame_shown fr row p gs f h s;
+    missing = λ fr k n. e ∙ ap (λ (x : Option Location). frame_or x p s) (missing fr k n);
   }
 
   pub augmentation_view : (r : Part A) → r ≡ augmentation_of (location_by (framing_of ses) p.octets row) p → AugmentationView ses row p r
@@ -135,27 +125,27 @@ module _ {A : Type 0} (ses : Session) (row : ℕ) (p : Part A) (o : Octets p.oct
     shown = λ fr k gs f h a. by k ∙ augmentation_shown fr row p gs f h a;
     none = λ fr k gs f h a. by k ∙ augmentation_none fr row p gs f h a;
     all = λ fr k gs f h. ap (λ (x : Part A). x.octets) (by k) ∙ augmentation_all fr row p gs f h;
-    missing = λ fr k n. e ∙ ap (λ (x : Location). augmentation_of x p) (missing fr k n) ∙ empty_part_lem p;
+    missing = λ fr k n. e ∙ ap (λ (x : Option Location). augmentation_of x p) (missing fr k n) ∙ empty_part_lem p;
   }
     where
-      by : {fr : Framing} → framing_of ses ≡ some fr → r ≡ augmentation_of (location_of (read_of fr p.octets) row) p
-      by k = e ∙ ap (λ (x : Location). augmentation_of x p) (is_in_lem k)
+      by : {fr : Framing} → framing_of ses ≡ Some fr → r ≡ augmentation_of (location_of (read_of fr p.octets) row) p
+      by k = e ∙ ap (λ (x : Option Location). augmentation_of x p) (is_in_lem k)
 
   -- ---- the code's branches: x is the location that was found
 
-  module _ {x : Location} (is : x ≡ location_by (framing_of ses) p.octets row) where
-    pub frame_missing : (s : Part A) → x ≡ Missing → FrameView ses row p s s
-    frame_missing s e = frame_view s s (ap (λ (y : Location). frame_or y p s) (sym e ∙ is))
+  module _ {x : Option Location} (is : x ≡ location_by (framing_of ses) p.octets row) where
+    pub frame_missing : (s : Part A) → x ≡ None → FrameView ses row p s s
+    frame_missing s e = frame_view s s (ap (λ (y : Option Location). frame_or y p s) (sym e ∙ is))
 
-    pub augmentation_missing : x ≡ Missing → AugmentationView ses row p (empty_part p)
-    augmentation_missing e = augmentation_view (empty_part p) (sym (empty_part_lem p) ∙ ap (λ (y : Location). augmentation_of y p) (sym e ∙ is))
+    pub augmentation_missing : x ≡ None → AugmentationView ses row p (empty_part p)
+    augmentation_missing e = augmentation_view (empty_part p) (sym (empty_part_lem p) ∙ ap (λ (y : Option Location). augmentation_of y p) (sym e ∙ is))
 
-    module _ (f a : Span) (e : x ≡ At f a) {r : Part A} where
-      pub frame_at : (s : Part A) → r ≡ part_at f p → FrameView ses row p s r
-      frame_at s q = frame_view s r (q ∙ ap (λ (y : Location). frame_or y p s) (sym e ∙ is))
+    module _ (l : Location) (e : x ≡ Some l) {r : Part A} where
+      pub frame_at : (s : Part A) → r ≡ part_at l.frame p → FrameView ses row p s r
+      frame_at s q = frame_view s r (q ∙ ap (λ (y : Option Location). frame_or y p s) (sym e ∙ is))
 
-      pub augmentation_at_lem : r ≡ part_at a p → AugmentationView ses row p r
-      augmentation_at_lem q = augmentation_view r (q ∙ ap (λ (y : Location). augmentation_of y p) (sym e ∙ is))
+      pub augmentation_at_lem : r ≡ part_at l.augmentation p → AugmentationView ses row p r
+      augmentation_at_lem q = augmentation_view r (q ∙ ap (λ (y : Option Location). augmentation_of y p) (sym e ∙ is))
 
 -- ---- the views of all rows, one after another, are the payload
 

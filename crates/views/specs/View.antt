@@ -1,6 +1,5 @@
 -- docs/FORMAT.md, "Views" and "Sessions": where the frame of a row stands in a payload, and the parts of lent memory that are shown of it.
-use Rattle.std.specs.Prelude.{◌≡◌, Bool, true, false, cond, not, List, [], ◌∷◌, ◌++◌, ℕ, zero, suc, ◌+◌, ◌≤◌, eqb, length, take, drop}
-use Rattle.std.proofs.Math.Option.{Option, none, some}
+use Rattle.std.specs.Prelude.{◌≡◌, Bool, true, false, cond, not, List, [], ◌∷◌, ◌++◌, ℕ, zero, suc, ◌+◌, ◌≤◌, eqb, length, take, drop, Option, Some, None}
 use Rattle.octets.specs.Part.{Part, part, empty_part}
 use Rattle.wire.specs.Frame.{Frame, table, framing_of, base, wire_octets, wire, octets_of, rows_of, Legal}
 use Rattle.wire.specs.Walk.{Walk, at, refused, read_of}
@@ -10,7 +9,6 @@ use Rattle.wire.specs.declared.Entry.{Entry}
 use Rattle.wire.specs.declared.Row.{Row}
 use Rattle.views.specs.declared.Span.{Span}
 use Rattle.views.specs.declared.Location.{Location}
-use Rattle.views.specs.declared.Location.TheVariants.{At, Missing}
 
 -- ---- where the frame of a row stands
 
@@ -33,33 +31,28 @@ augmentation_at a e t = cond (is_augmented e) (span (a + e.octets) t) empty_span
 
 -- the location of the frame of row x whose octets start at a
 abbrev pub location_at : ℕ → Row → Location
-location_at a x = At (span a (wire_octets x)) (augmentation_at a (table x.kind) x.tc)
+location_at a x = record { frame = span a (wire_octets x); augmentation = augmentation_at a (table x.kind) x.tc }
 
 -- row i of rows whose frames' octets start at a
-abbrev pub location_in : ℕ → List Row → ℕ → Location
-location_in a [] i = Missing
-location_in a (x ∷ xs) zero = location_at a x
+abbrev pub location_in : ℕ → List Row → ℕ → Option Location
+location_in a [] i = None
+location_in a (x ∷ xs) zero = Some (location_at a x)
 location_in a (x ∷ xs) (suc i) = location_in (a + wire_octets x) xs i
 
--- the location of a row; missing "if the payload is refused or the row missing"
-unfoldable pub location_of : Walk → ℕ → Location
-location_of (refused n place behind) i = Missing
+-- the location of a row; none "if the payload is refused or the row missing"
+unfoldable pub location_of : Walk → ℕ → Option Location
+location_of (refused x place behind) i = None
 location_of (at u fs) i = location_in 0 (rows_of fs) i
 
--- the same of a payload p in a session; missing too where "any other agreed rate" is refused, "before all else"
-abbrev pub location_by : Option Framing → List ℕ → ℕ → Location
-location_by none p i = Missing
-location_by (some fr) p i = location_of (read_of fr p) i
+-- the same of a payload p in a session; none too where "any other agreed rate" is refused, "before all else"
+abbrev pub location_by : Option Framing → List ℕ → ℕ → Option Location
+location_by None p i = None
+location_by (Some fr) p i = location_of (read_of fr p) i
 
--- the values of a location: where the frame and its augmentation stand
-pub record Spans : Type 0 where
-  pub frame : Span
-  pub augmentation : Span
-
--- the values for each case, 0 for all where missing; there is no refusal number: "who needs it asks the reader"
-abbrev pub location_values : Location → Spans
-location_values (At f a) = record { frame = f; augmentation = a }
-location_values Missing = record { frame = empty_span; augmentation = empty_span }
+-- the values for each case, 0 for all where there is none; there is no refusal number: "who needs it asks the reader"
+abbrev pub location_values : Option Location → Location
+location_values None = record { frame = empty_span; augmentation = empty_span }
+location_values (Some x) = x
 
 -- ---- what legal sequences say of a row
 
@@ -75,12 +68,12 @@ abbrev pub NoRow : Framing → List ℕ → ℕ → Type 0
 NoRow fr p row = (fs : List Frame) → Legal fr fs → octets_of fr fs ≡ p → length fs ≤ row
 
 -- what `locate` promises of a payload p in a session
-pub record Locates (ses : Session) (p : List ℕ) (row : ℕ) (r : Location) : Type 0 where
+pub record Locates (ses : Session) (p : List ℕ) (row : ℕ) (r : Option Location) : Type 0 where
   pub answer : r ≡ location_by (framing_of ses) p row
   pub values : location_values r ≡ location_values (location_by (framing_of ses) p row)
-  pub found : (fr : Framing) → framing_of ses ≡ some fr → (gs : List Frame) (f : Frame) → HasRow fr p row gs f
-      → r ≡ location_at (length (octets_of fr gs)) f.row
-  pub missing : (fr : Framing) → framing_of ses ≡ some fr → NoRow fr p row → r ≡ Missing
+  pub found : (fr : Framing) → framing_of ses ≡ Some fr → (gs : List Frame) (f : Frame) → HasRow fr p row gs f
+      → r ≡ Some (location_at (length (octets_of fr gs)) f.row)
+  pub missing : (fr : Framing) → framing_of ses ≡ Some fr → NoRow fr p row → r ≡ None
 
 -- ---- the views
 
@@ -89,36 +82,36 @@ abbrev pub part_at : {A : Type 0} → Span → Part A → Part A
 part_at x p = record { block = p.block; start = p.start + x.start; octets = take x.length (drop x.start p.octets) }
 
 -- "the augmentation is handed back as a part of the payload itself"
-abbrev pub augmentation_of : {A : Type 0} → Location → Part A → Part A
+abbrev pub augmentation_of : {A : Type 0} → Option Location → Part A → Part A
 augmentation_of x p = part_at (location_values x).augmentation p
 
 -- "the row's own wire octets, or .. the whole stand-in": of the payload p and the stand-in s
-abbrev pub frame_or : {A : Type 0} → Location → Part A → Part A → Part A
-frame_or (At f a) p s = part_at f p
-frame_or Missing p s = s
+abbrev pub frame_or : {A : Type 0} → Option Location → Part A → Part A → Part A
+frame_or None p s = s
+frame_or (Some x) p s = part_at x.frame p
 
 -- what `augmentation` promises of a payload p in a session and the part r that it returns
 pub record AugmentationView {A : Type 0} (ses : Session) (row : ℕ) (p r : Part A) : Type 0 where
   pub answer : r ≡ augmentation_of (location_by (framing_of ses) p.octets row) p
   -- of a frame whose kind has augmentation: what stands in its body behind the base, where it stands in the payload
-  pub shown : (fr : Framing) → framing_of ses ≡ some fr → (gs : List Frame) (f : Frame) → HasRow fr p.octets row gs f
+  pub shown : (fr : Framing) → framing_of ses ≡ Some fr → (gs : List Frame) (f : Frame) → HasRow fr p.octets row gs f
       → is_augmented (table f.row.kind) ≡ true
       → r ≡ record { block = p.block; start = p.start + (length (octets_of fr gs) + base f.row); octets = drop (base f.row) f.body }
   -- of any other
-  pub none : (fr : Framing) → framing_of ses ≡ some fr → (gs : List Frame) (f : Frame) → HasRow fr p.octets row gs f
+  pub none : (fr : Framing) → framing_of ses ≡ Some fr → (gs : List Frame) (f : Frame) → HasRow fr p.octets row gs f
       → is_augmented (table f.row.kind) ≡ false → r ≡ empty_part p
   -- of either: all of its body that stands behind the base
-  pub all : (fr : Framing) → framing_of ses ≡ some fr → (gs : List Frame) (f : Frame) → HasRow fr p.octets row gs f
+  pub all : (fr : Framing) → framing_of ses ≡ Some fr → (gs : List Frame) (f : Frame) → HasRow fr p.octets row gs f
       → r.octets ≡ drop (base f.row) f.body
-  pub missing : (fr : Framing) → framing_of ses ≡ some fr → NoRow fr p.octets row → r ≡ empty_part p
+  pub missing : (fr : Framing) → framing_of ses ≡ Some fr → NoRow fr p.octets row → r ≡ empty_part p
 
 -- what `frame_or` promises of a payload p in a session, a stand-in s and the part r that it returns
 pub record FrameView {A : Type 0} (ses : Session) (row : ℕ) (p s r : Part A) : Type 0 where
   pub answer : r ≡ frame_or (location_by (framing_of ses) p.octets row) p s
   -- the frame's octets, where they stand in the payload
-  pub shown : (fr : Framing) → framing_of ses ≡ some fr → (gs : List Frame) (f : Frame) → HasRow fr p.octets row gs f
+  pub shown : (fr : Framing) → framing_of ses ≡ Some fr → (gs : List Frame) (f : Frame) → HasRow fr p.octets row gs f
       → r ≡ record { block = p.block; start = p.start + length (octets_of fr gs); octets = wire fr f }
-  pub missing : (fr : Framing) → framing_of ses ≡ some fr → NoRow fr p.octets row → r ≡ s
+  pub missing : (fr : Framing) → framing_of ses ≡ Some fr → NoRow fr p.octets row → r ≡ s
 
 -- what `augmentation` promises, of the code's pointers
 abbrev pub AugmentationShown : {A : Type 0} → Session → ℕ → A → ℕ → List ℕ → A → ℕ → List ℕ → Type 0

@@ -7,15 +7,17 @@ use lib.Dec.{T}
 use lib.ListN.{length, length-append}
 use lib.Seq.{drop_at, take-append-le}
 use borrow.Author.Tests.{le-ltb}
+use Rattle.std.specs.Prelude.{Result}
+use Rattle.refusal.specs.declared.Reason.{Reason}
 use Rattle.wire.specs.Frame.{Frame, LegalRow, LegalBody, LegalBodies, agreed_rate, AgreedOn, base, rate, body_octets, wire_octets, wire, octets_of, rows_of, OfRate, Stands, Legal}
 use Rattle.wire.specs.Walk.{last_frame, beside, rate_of, over, next, frame_at, run, read_of, at}
-use Rattle.wire.specs.declared.Framing.{Framing}
-use Rattle.wire.specs.declared.Ending.{Ending}
+use Rattle.wire.specs.declared.Framing.{Framing, Framing}
 use Rattle.wire.proofs.TableLaws.{bounds}
 use Rattle.wire.proofs.Octets.{in_place, length-wire, wire_body, length_octets}
 use Rattle.wire.proofs.Rates.{stands_agrees, beside_stands}
 use Rattle.wire.proofs.NameLaws.{agrees}
 use Rattle.wire.proofs.ReadBack.{InPlace, last_wire}
+use Rattle.wire.specs.declared.Row.{Row}
 
 pub length_rows : (fs : List Frame) → length (rows_of fs) ≡ length fs
 length_rows [] = refl
@@ -74,7 +76,7 @@ module _ (fr : Framing) where
         let u : ℕ = length q + wire_octets f.row in
         let e : u - wire_octets f.row ≡ length q = omega arith in
         next_at p u behind (omega arith)
-        ∙ ap (λ (x : Ending). over fr p u behind (beside (length behind) (rate_of (agreed_rate fr) (rows_of behind)) x)) (last_wire fr p u (length q) f.row f.body placed)
+        ∙ ap (λ (x : Result Row Reason). over fr p u behind (beside (length behind) (rate_of (agreed_rate fr) (rows_of behind)) x)) (last_wire fr p u (length q) f.row f.body placed)
         ∙ ap (over fr p u behind) (rw length_rows at (beside_stands fr f.row (rows_of behind) r a s o))
         ∙ ap (λ (a : ℕ). at a (frame_at fr p a f.row ∷ behind)) e
         ∙ ap (λ (g : Frame). at (length q) (g ∷ behind)) back

@@ -7,12 +7,13 @@ use native.Mathlib.Omega.{arith}
 use lib.Dec.{T, ltb}
 use lib.ListN.{length, get_or, length-append}
 use lib.Seq.{drop_at, take-append-le}
+use Rattle.std.specs.Prelude.{Result, Ok, Err}
+use Rattle.refusal.specs.declared.Reason.TheVariants.{FrameCut, AugmentationNot2400}
+use Rattle.refusal.specs.declared.Reason.{Reason}
 use Rattle.wire.specs.Frame.{Frame, Legal, LegalRow, LegalBody, base, code, top, body_octets, wire_octets, wire, octets_of, bodies_of}
 use Rattle.wire.specs.Walk.{ending, whole, last_frame, frame_at}
-use Rattle.wire.specs.declared.Framing.{Framing}
-use Rattle.wire.specs.declared.Row.{Row}
-use Rattle.wire.specs.declared.Ending.{Ending}
-use Rattle.wire.specs.declared.Ending.TheVariants.{Refused, Names}
+use Rattle.wire.specs.declared.Framing.{Framing, Framing}
+use Rattle.wire.specs.declared.Row.{Row, Row}
 use Rattle.wire.proofs.TableLaws.{bounds}
 use Rattle.wire.proofs.NameLaws.{agrees}
 use Rattle.wire.proofs.Octets.{in_place, length-wire, wire-base, wire_body}
@@ -38,24 +39,24 @@ last_of fs h = go (from_end fs) h
 
 module _ (fr : Framing) where
   -- what is whole at the end of the unread octets is what they name
-  last_names : (p : List ℕ) (u : ℕ) (x : Row) → last_frame fr p u ≡ Names x → ending fr p u ≡ Names x
+  last_names : (p : List ℕ) (u : ℕ) (x : Row) → last_frame fr p u ≡ Ok x → ending fr p u ≡ Ok x
   unfolding last_frame whole
   last_names p u x q = go (ending fr p u) q
     where
-      test : (y : Row) (a b : Bool) → cond a (Refused 2) (cond b (Refused 7) (Names y)) ≡ Names x → Names y ≡ Names x
+      test : (y : Row) (a b : Bool) → ◌≡◌ {A = Result Row Reason} (cond a (Err FrameCut) (cond b (Err AugmentationNot2400) (Ok y))) (Ok x) → ◌≡◌ {A = Result Row Reason} (Ok y) (Ok x)
       test y true b d = absurd (let z : ◌≡◌ {A = ℕ} 0 1 = cc in omega arith)
       test y false true d = absurd (let z : ◌≡◌ {A = ℕ} 0 1 = cc in omega arith)
       test y false false d = d
 
-      go : (e : Ending) → whole fr p u e ≡ Names x → e ≡ Names x
-      go (Refused n) d = absurd (let z : ◌≡◌ {A = ℕ} 0 1 = cc in omega arith)
-      go (Names y) d = test y (ltb u (wire_octets y)) (ltb (code fr y + top fr y) (get_or p (u - wire_octets y + (base y - 1)) 0)) d
+      go : (e : Result Row Reason) → whole fr p u e ≡ Ok x → e ≡ Ok x
+      go (Err n) d = absurd (let z : ◌≡◌ {A = ℕ} 0 1 = cc in omega arith)
+      go (Ok y) d = test y (ltb u (wire_octets y)) (ltb (code fr y + top fr y) (get_or p (u - wire_octets y + (base y - 1)) 0)) d
 
   -- the octets of the frame g stand in p from a to u, and are read as that frame
   pub record EndsIn (p : List ℕ) (u a : ℕ) (g : Frame) : Type 0 where
     pub unread : u ≡ a + wire_octets g.row
     pub inside : u ≤ length p
-    pub names : ending fr p u ≡ Names g.row
+    pub names : ending fr p u ≡ Ok g.row
     pub coded : code fr g.row ≤ get_or p (a + (base g.row - 1)) 0
     pub size : length g.body ≡ body_octets g.row
     pub body : (frame_at fr p a g.row).body ≡ g.body
@@ -109,5 +110,5 @@ module _ (fr : Framing) where
     frame_inside =
         omega (arith, ap length frame_octets, length-append (octets_of fr gs) (wire fr f ++ octets_of fr hs), length-append (wire fr f) (octets_of fr hs), frame_long)
 
-    pub frame_named : ending fr (octets_of fr (gs ++ (f ∷ hs))) (length (octets_of fr gs) + wire_octets f.row) ≡ Names f.row
+    pub frame_named : ending fr (octets_of fr (gs ++ (f ∷ hs))) (length (octets_of fr gs) + wire_octets f.row) ≡ Ok f.row
     frame_named = rw frame_octets (between (octets_of fr gs) (octets_of fr hs) f legal_frame.legal legal_frame.agrees legal_frame.body).names

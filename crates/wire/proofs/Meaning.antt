@@ -4,17 +4,18 @@ use mathlib.Core.List.{List, [], ◌∷◌}
 use Prim.Native.Nat.{ℕ, zero, suc, ◌*◌, ◌≤◌}
 use native.Mathlib.Omega.{arith}
 use lib.ListN.{length}
-use Rattle.refusal.specs.Report.{refusal}
-use Rattle.refusal.specs.declared.Refusal.{Refusal}
+use Rattle.refusal.specs.Report.{refusal, refusal}
+use Rattle.refusal.specs.declared.Refusal.{Refusal, Refusal}
+use Rattle.std.specs.Prelude.{Result, Ok, Err}
+use Rattle.refusal.specs.declared.Reason.{Reason}
+use Rattle.refusal.specs.Numbers.{number_of}
 use Rattle.octets.specs.Octet.{Octets}
 use Rattle.wire.specs.Frame.{Frame, Legal, octets_of, rows_of, rate, ticks, body_octets, wire_octets, sum_of}
 use Rattle.wire.specs.Walk.{Walk, at, refused, read_of}
 use Rattle.wire.specs.Answers.{walked_of, summary_of}
-use Rattle.wire.specs.declared.Framing.{Framing}
-use Rattle.wire.specs.declared.Row.{Row}
-use Rattle.wire.specs.declared.Summary.{Summary}
-use Rattle.wire.specs.declared.Walked.{Walked}
-use Rattle.wire.specs.declared.Walked.TheVariants as walked
+use Rattle.wire.specs.declared.Framing.{Framing, Framing}
+use Rattle.wire.specs.declared.Row.{Row, Row}
+use Rattle.wire.specs.declared.Summary.{Summary, Summary}
 use Rattle.wire.proofs.Rates.{ticks_most}
 use Rattle.wire.proofs.Octets.{length_bodies}
 use Rattle.wire.proofs.WholeFrame.{Numbered}
@@ -40,7 +41,7 @@ pub record Small (s : Summary) : Type 0 where
 
 -- ---- what it says of the payload
 
-pub differ : {n place u : ℕ} {behind fs : List Frame} → refused n place behind ≡ at u fs → ⊥
+pub differ : {n : Reason} {place u : ℕ} {behind fs : List Frame} → refused n place behind ≡ at u fs → ⊥
 differ e = let z : ◌≡◌ {A = ℕ} 0 1 = cc in omega arith
 
 module _ (fr : Framing) where
@@ -49,7 +50,7 @@ module _ (fr : Framing) where
   reads_it p fs l e = ap (read_of fr) (sym e) ∙ complete fr fs l
 
   -- no legal sequence gives a payload that the walk refuses
-  pub none_gives : (p : List ℕ) {n place : ℕ} {behind : List Frame} → read_of fr p ≡ refused n place behind → (fs : List Frame) → Legal fr fs → octets_of fr fs ≡ p → ⊥
+  pub none_gives : (p : List ℕ) {n : Reason} {place : ℕ} {behind : List Frame} → read_of fr p ≡ refused n place behind → (fs : List Frame) → Legal fr fs → octets_of fr fs ≡ p → ⊥
   none_gives p q fs l e = differ (sym q ∙ reads_it p fs l e)
 
   -- a payload that the legal sequence fs gives
@@ -62,13 +63,13 @@ module _ (fr : Framing) where
   -- a payload that the walk refuses, by the refusal x
   pub record Denied (p : List ℕ) (x : Refusal) : Type 0 where
     pub behind : List Frame
-    pub reads : read_of fr p ≡ refused x.number x.place behind
-    pub range : Numbered x.number × (1 ≤ x.place) × (x.place ≤ 1400)
+    pub reads : read_of fr p ≡ refused x.reason x.place behind
+    pub range : Numbered (number_of x.reason) × (1 ≤ x.place) × (x.place ≤ 1400)
 
   -- what a walk came to
   pub data Meaning (p : List ℕ) : Walk → Type 0 where
     accepted : (a : Accepted p) → Meaning p (at 0 a.fs)
-    denied : (x : Refusal) (d : Denied p x) → Meaning p (refused x.number x.place d.behind)
+    denied : (x : Refusal) (d : Denied p x) → Meaning p (refused x.reason x.place d.behind)
 
   pub meaning : (p : List ℕ) → Octets p → Meaning p (read_of fr p)
   meaning p o = go (read_of fr p) refl (read_ends fr p)
@@ -80,18 +81,18 @@ module _ (fr : Framing) where
 
   -- ---- the walk's answer
 
-  module _ (p : List ℕ) (o : Octets p) {s : Walked} (is : s ≡ walked_of (read_of fr p)) where
-    pub went : (x : Summary) → s ≡ walked.Whole x → (a : Accepted p) × (x ≡ summary_of a.fs)
+  module _ (p : List ℕ) (o : Octets p) {s : Result Summary Refusal} (is : s ≡ walked_of (read_of fr p)) where
+    pub went : (x : Summary) → s ≡ Ok x → (a : Accepted p) × (x ≡ summary_of a.fs)
     went x e = go (meaning p o) (sym is ∙ e)
       where
-        go : {w : Walk} → Meaning p w → walked_of w ≡ walked.Whole x → (a : Accepted p) × (x ≡ summary_of a.fs)
+        go : {w : Walk} → Meaning p w → walked_of w ≡ Ok x → (a : Accepted p) × (x ≡ summary_of a.fs)
         go (accepted a) q = let f : summary_of a.fs ≡ x = cc in (a, sym f)
         go (denied y d) q = absurd (let z : ◌≡◌ {A = ℕ} 0 1 = cc in omega arith)
 
-    pub stopped : (x : Refusal) → s ≡ walked.Refused x → Denied p x
+    pub stopped : (x : Refusal) → s ≡ Err x → Denied p x
     stopped x e = go (meaning p o) (sym is ∙ e)
       where
-        go : {w : Walk} → Meaning p w → walked_of w ≡ walked.Refused x → Denied p x
+        go : {w : Walk} → Meaning p w → walked_of w ≡ Err x → Denied p x
         go (accepted a) q = absurd (let z : ◌≡◌ {A = ℕ} 0 1 = cc in omega arith)
         go (denied y d) q = let f : y ≡ x = cc in subst (Denied p) f d
 

@@ -6,28 +6,29 @@ use mathlib.Core.List.{List, [], ◌∷◌}
 use Prim.Native.Nat.{ℕ, suc, ◌-◌, ◌<◌}
 use native.Mathlib.Omega.{arith}
 use lib.Dec.{T, leb, ltb, eqb, leb→le, eqb→eq}
+use Rattle.std.specs.Prelude.{Result, Ok, Err}
+use Rattle.refusal.specs.declared.Reason.{Reason}
+use Rattle.refusal.specs.Numbers.{number_of}
 use Rattle.wire.specs.Frame.{framings, agreed_rate, kinds, table, row, code, top, count_in, count_of, LegalRow}
 use Rattle.wire.specs.Walk.{named, counted}
-use Rattle.wire.specs.declared.Framing.{Framing}
-use Rattle.wire.specs.declared.Kind.{Kind}
-use Rattle.wire.specs.declared.Row.{Row}
-use Rattle.wire.specs.declared.Ending.{Ending}
-use Rattle.wire.specs.declared.Ending.TheVariants.{Refused, Names}
+use Rattle.wire.specs.declared.Framing.{Framing, Framing}
+use Rattle.wire.specs.declared.Kind.{Kind, Kind}
+use Rattle.wire.specs.declared.Row.{Row, Row}
 use Rattle.wire.proofs.TableLaws.{first, second, every, at_kind, each, at_number, in_all, at_framing, same_number}
 
 -- ---- each legal row is named by the octets that it ends in
 
-abbrev pub same : Ending → Row → Bool
-same (Refused n) x = false
-same (Names y) x = eqb (table y.kind).number (table x.kind).number && eqb y.tc x.tc
+abbrev pub same : Result Row Reason → Row → Bool
+same (Err n) x = false
+same (Ok y) x = eqb (table y.kind).number (table x.kind).number && eqb y.tc x.tc
 
-pub same_is : (e : Ending) (x : Row) → T (same e x) → e ≡ Names x
-same_is (Refused n) x h = absurd h
-same_is (Names y) x h =
+pub same_is : (e : Result Row Reason) (x : Row) → T (same e x) → e ≡ Ok x
+same_is (Err n) x h = absurd h
+same_is (Ok y) x h =
     let numbers : Bool = eqb (table y.kind).number (table x.kind).number in
     let k : y.kind ≡ x.kind = same_number y.kind x.kind (eqb→eq _ _ (first numbers (eqb y.tc x.tc) h)) in
     let t : y.tc ≡ x.tc = eqb→eq _ _ (second numbers (eqb y.tc x.tc) h) in
-    λ i. Names (record { kind = k i; tc = t i })
+    λ i. Ok (record { kind = k i; tc = t i })
 
 -- the row x, whose count is cs: where it has none, its base's last octet names it
 abbrev pub named_by : Framing → Row → List ℕ → Bool
@@ -80,9 +81,9 @@ ends_in fr y x [] = eqb x.tc 0 && leb (code fr x) y
 ends_in fr y x (c ∷ []) = eqb (code fr x) 0 && eqb c y
 ends_in fr y x (c ∷ d ∷ cs) = false
 
-abbrev pub name_holds : Framing → ℕ → Ending → Bool
-name_holds fr y (Refused n) = refusal n
-name_holds fr y (Names x) = legal x && ends_in fr y x (count_of x)
+abbrev pub name_holds : Framing → ℕ → Result Row Reason → Bool
+name_holds fr y (Err n) = refusal (number_of n)
+name_holds fr y (Ok x) = legal x && ends_in fr y x (count_of x)
 
 all_names_hold : T (in_all (λ (fr : Framing). each (λ (y : ℕ). name_holds fr y (named fr y)) 0 255) framings)
 unfolding named count_in
@@ -99,9 +100,9 @@ ends_long fr t x (c ∷ []) = false
 ends_long fr t x (c ∷ d ∷ []) = eqb (code fr x) 0 && (eqb c t && eqb d 255)
 ends_long fr t x (c ∷ d ∷ e ∷ cs) = false
 
-abbrev pub long_name_holds : Framing → ℕ → Ending → Bool
-long_name_holds fr t (Refused n) = refusal n
-long_name_holds fr t (Names x) = legal x && ends_long fr t x (count_of x)
+abbrev pub long_name_holds : Framing → ℕ → Result Row Reason → Bool
+long_name_holds fr t (Err n) = refusal (number_of n)
+long_name_holds fr t (Ok x) = legal x && ends_long fr t x (count_of x)
 
 all_long_names_hold : T (in_all (λ (fr : Framing). each (λ (t : ℕ). long_name_holds fr t (counted t)) 0 256) framings)
 unfolding counted count_in

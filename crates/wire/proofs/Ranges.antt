@@ -5,12 +5,15 @@ use mathlib.Core.List.{List, [], ◌∷◌}
 use Prim.Native.Nat.{ℕ, suc, ◌+◌, ◌*◌, ◌≤◌, ◌<◌}
 use native.Mathlib.Omega.{arith}
 use lib.ListN.{length}
+use Rattle.std.specs.Prelude.{Err}
+use Rattle.refusal.specs.declared.Reason.TheVariants.{FrameCut}
+use Rattle.refusal.specs.declared.Reason.{Reason}
+use Rattle.refusal.specs.Numbers.{number_of}
 use Rattle.octets.specs.Octet.{Octets}
 use Rattle.wire.specs.Frame.{Frame, rate, wire_octets, sum_of, rows_of, OfRate, Legal}
 use Rattle.wire.specs.Walk.{ending, read_of, refused}
-use Rattle.wire.specs.declared.Framing.{Framing}
-use Rattle.wire.specs.declared.Row.{Row}
-use Rattle.wire.specs.declared.Ending.TheVariants.{Refused}
+use Rattle.wire.specs.declared.Framing.{Framing, Framing}
+use Rattle.wire.specs.declared.Row.{Row, Row}
 use Rattle.octets.proofs.Order.{below_or}
 use Rattle.wire.proofs.TableLaws.{bounds, coder_octets}
 use Rattle.wire.proofs.Rates.{either}
@@ -30,18 +33,18 @@ rows_octets r (x ∷ xs) o = go (rows_octets r xs o.2) (either r (rate x) xs o.1
 
 module _ (fr : Framing) where
   -- a refusal's number and place
-  pub in_range : (p : List ℕ) (n place : ℕ) (behind : List Frame) → Octets p → read_of fr p ≡ refused n place behind → Numbered n × (1 ≤ place) × (place ≤ 1400)
+  pub in_range : (p : List ℕ) (n : Reason) (place : ℕ) (behind : List Frame) → Octets p → read_of fr p ≡ refused n place behind → Numbered (number_of n) × (1 ≤ place) × (place ≤ 1400)
   in_range p n place behind o e = subst (Kept fr p) e (read_kept fr p o)
 
   -- the number of what unread octets are refused by for their end
-  pub end_in_range : (p : List ℕ) (u n : ℕ) → Octets p → ending fr p u ≡ Refused n → Numbered n
+  pub end_in_range : (p : List ℕ) (u : ℕ) (n : Reason) → Octets p → ending fr p u ≡ Err n → Numbered (number_of n)
   end_in_range p u n o e = go (below_or 0 u)
     where
-      go : (0 < u) ⊎ (u ≤ 0) → Numbered n
+      go : (0 < u) ⊎ (u ≤ 0) → Numbered (number_of n)
       go (inl h) = subst (Shows fr p u) e (ending_shows fr p u o h)
       go (inr h) =
-          let q : Refused 2 ≡ Refused n = sym (ending_none fr p u (omega arith)) ∙ e in
-          let z : 2 ≡ n = cc in (omega arith, omega arith, λ f. omega arith)
+          let q : Err FrameCut ≡ Err n = sym (ending_none fr p u (omega arith)) ∙ e in
+          let z : FrameCut ≡ n = cc in let w : 2 ≡ number_of n = ap number_of z in (omega arith, omega arith, λ f. omega arith)
 
   -- "at most 200 frames"
   pub frames_most : (fs : List Frame) → Legal fr fs → length fs ≤ 200

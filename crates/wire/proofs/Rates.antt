@@ -9,36 +9,37 @@ use native.Mathlib.Decide.{ℕ_discrete}
 use lib.Dec.{T, eqb, eqb_refl}
 use lib.ListN.{length}
 use borrow.Author.Tests.{eq-eqb, ne_eqb}
+use Rattle.std.specs.Prelude.{Result, Ok, Err}
+use Rattle.refusal.specs.declared.Reason.TheVariants.{ComfortNoiseNotLast, RatesMixed}
+use Rattle.refusal.specs.declared.Reason.{Reason}
 use Rattle.wire.specs.Frame.{agreed_rate, AgreedOn, LegalRow, Stands, OfRate, rate, ticks_of_rate}
 use Rattle.wire.specs.Walk.{rate_of, beside}
-use Rattle.wire.specs.declared.Framing.{Framing}
-use Rattle.wire.specs.declared.Row.{Row}
+use Rattle.wire.specs.declared.Framing.{Framing, Framing}
+use Rattle.wire.specs.declared.Row.{Row, Row}
 use Rattle.wire.proofs.NameLaws.{agrees}
-use Rattle.wire.specs.declared.Ending.{Ending}
-use Rattle.wire.specs.declared.Ending.TheVariants.{Refused, Names}
 
 -- ---- the walk's 6 and 8, case by case
 
 module _ (n r : ℕ) (x : Row) where
   module _ (z : rate x ≡ 0) where
-    pub noise_first : n ≡ 0 → beside n r (Names x) ≡ Names x
+    pub noise_first : n ≡ 0 → beside n r (Ok x) ≡ Ok x
     unfolding beside
     noise_first e = simp (eq-eqb (rate x) 0 z, eq-eqb n 0 e)
 
-    pub noise_late : (n ≡ 0 → ⊥) → beside n r (Names x) ≡ Refused 6
+    pub noise_late : (n ≡ 0 → ⊥) → beside n r (Ok x) ≡ Err ComfortNoiseNotLast
     unfolding beside
     noise_late e = simp (eq-eqb (rate x) 0 z, ne_eqb n 0 e)
 
   module _ (z : rate x ≡ 0 → ⊥) where
-    pub coder_first : r ≡ 0 → beside n r (Names x) ≡ Names x
+    pub coder_first : r ≡ 0 → beside n r (Ok x) ≡ Ok x
     unfolding beside
     coder_first e = simp (ne_eqb (rate x) 0 z, eq-eqb r 0 e)
 
-    pub coder_same : rate x ≡ r → beside n r (Names x) ≡ Names x
+    pub coder_same : rate x ≡ r → beside n r (Ok x) ≡ Ok x
     unfolding beside
     coder_same e = let q : r ≡ 0 → ⊥ = λ d. z (e ∙ d) in simp (ne_eqb (rate x) 0 z, ne_eqb r 0 q, eq-eqb (rate x) r e)
 
-    pub coder_mixed : (r ≡ 0 → ⊥) → (rate x ≡ r → ⊥) → beside n r (Names x) ≡ Refused 8
+    pub coder_mixed : (r ≡ 0 → ⊥) → (rate x ≡ r → ⊥) → beside n r (Ok x) ≡ Err RatesMixed
     unfolding beside
     coder_mixed q e = simp (ne_eqb (rate x) 0 z, ne_eqb r 0 q, ne_eqb (rate x) r e)
 
@@ -49,11 +50,11 @@ pub either : (r s : ℕ) (behind : List Row) → Stands r s behind → ((s ≡ 0
 either r zero behind h = inl (refl, h)
 either r (suc s) behind h = inr ((λ e. omega arith), h)
 
-noise_stands : (r s : ℕ) (behind : List Row) → s ≡ 0 → behind ≡ [] → Stands r s behind
+pub noise_stands : (r s : ℕ) (behind : List Row) → s ≡ 0 → behind ≡ [] → Stands r s behind
 noise_stands r zero behind z e = e
 noise_stands r (suc s) behind z e = absurd (omega arith)
 
-coder_stands : (r s : ℕ) (behind : List Row) → (s ≡ 0 → ⊥) → s ≡ r → Stands r s behind
+pub coder_stands : (r s : ℕ) (behind : List Row) → (s ≡ 0 → ⊥) → s ≡ r → Stands r s behind
 coder_stands r zero behind z e = absurd (z refl)
 coder_stands r (suc s) behind z e = e
 
@@ -120,54 +121,54 @@ module _ (fr : Framing) where
 
   module _ (x : Row) (behind : List Row) where
     -- a frame that may stand before the others is not refused beside them
-    pub beside_stands : (r : ℕ) → AgreedOn fr r → Stands r (rate x) behind → OfRate r behind → beside (length behind) (rate_of (agreed_rate fr) behind) (Names x) ≡ Names x
+    pub beside_stands : (r : ℕ) → AgreedOn fr r → Stands r (rate x) behind → OfRate r behind → beside (length behind) (rate_of (agreed_rate fr) behind) (Ok x) ≡ Ok x
     beside_stands r a s h = go (either r (rate x) behind s) (coders r behind a h)
       where
-        go : ((rate x ≡ 0) × (behind ≡ [])) ⊎ ((rate x ≡ 0 → ⊥) × (rate x ≡ r)) → Coders r behind → beside (length behind) (rate_of (agreed_rate fr) behind) (Names x) ≡ Names x
+        go : ((rate x ≡ 0) × (behind ≡ [])) ⊎ ((rate x ≡ 0 → ⊥) × (rate x ≡ r)) → Coders r behind → beside (length behind) (rate_of (agreed_rate fr) behind) (Ok x) ≡ Ok x
         go (inl w) q = noise_first (length behind) (rate_of (agreed_rate fr) behind) x w.0 (ap length w.1)
         go (inr w) (inl q) = coder_same (length behind) (rate_of (agreed_rate fr) behind) x w.0 (w.1 ∙ sym q.1)
         go (inr w) (inr q) = coder_first (length behind) (rate_of (agreed_rate fr) behind) x w.0 q.1
 
     -- a frame that is not refused beside the others makes a sequence of one rate with them
-    pub stands_beside : (r : ℕ) → LegalRow x → AgreedOn fr r → OfRate r behind → (y : Row) → beside (length behind) (rate_of (agreed_rate fr) behind) (Names x) ≡ Names y
+    pub stands_beside : (r : ℕ) → LegalRow x → AgreedOn fr r → OfRate r behind → (y : Row) → beside (length behind) (rate_of (agreed_rate fr) behind) (Ok x) ≡ Ok y
         → (s : ℕ) × AgreedOn fr s × OfRate s (x ∷ behind)
     stands_beside r l a h y e = go (ℕ_discrete (rate x) 0) (ℕ_discrete (length behind) 0) (ℕ_discrete (rate x) (rate_of (agreed_rate fr) behind)) (coders r behind a h)
       where
-        wrong : (n : ℕ) → beside (length behind) (rate_of (agreed_rate fr) behind) (Names x) ≡ Refused n → (s : ℕ) × AgreedOn fr s × OfRate s (x ∷ behind)
+        wrong : (n : Reason) → beside (length behind) (rate_of (agreed_rate fr) behind) (Ok x) ≡ Err n → (s : ℕ) × AgreedOn fr s × OfRate s (x ∷ behind)
         wrong n d = absurd (let z : ◌≡◌ {A = ℕ} 0 1 = cc in omega arith)
 
         go : Dec (rate x ≡ 0) → Dec (length behind ≡ 0) → Dec (rate x ≡ rate_of (agreed_rate fr) behind) → Coders r behind → (s : ℕ) × AgreedOn fr s × OfRate s (x ∷ behind)
         go (yes z) (yes n) m q = (r, a, (l, noise_stands r (rate x) behind z (none_behind behind n), h))
-        go (yes z) (no n) m q = wrong 6 (noise_late (length behind) (rate_of (agreed_rate fr) behind) x z n)
+        go (yes z) (no n) m q = wrong ComfortNoiseNotLast (noise_late (length behind) (rate_of (agreed_rate fr) behind) x z n)
         go (no z) n m (inr q) = (rate x, inl q.0, (l, coder_stands (rate x) (rate x) behind z refl, q.2 (rate x)))
         go (no z) n (yes m) (inl q) = (r, a, (l, coder_stands r (rate x) behind z (m ∙ q.1), h))
-        go (no z) n (no m) (inl q) = wrong 8 (coder_mixed (length behind) (rate_of (agreed_rate fr) behind) x z q.0 m)
+        go (no z) n (no m) (inl q) = wrong RatesMixed (coder_mixed (length behind) (rate_of (agreed_rate fr) behind) x z q.0 m)
 
 -- what was found beside the frames read is refused, or the same
-pub beside_same : (n r : ℕ) (x y : Row) → beside n r (Names x) ≡ Names y → x ≡ y
+pub beside_same : (n r : ℕ) (x y : Row) → beside n r (Ok x) ≡ Ok y → x ≡ y
 unfolding beside
 beside_same n r x y e = go (eqb (rate x) 0) (eqb n 0) (eqb r 0) (eqb (rate x) r) e
   where
-    go : (a b c d : Bool) → cond a (cond b (Names x) (Refused 6)) (cond c (Names x) (cond d (Names x) (Refused 8))) ≡ Names y → x ≡ y
+    go : (a b c d : Bool) → cond a (cond b (Ok x) (Err ComfortNoiseNotLast)) (cond c (Ok x) (cond d (Ok x) (Err RatesMixed))) ≡ Ok y → x ≡ y
     go true true c d q = cc
     go true false c d q = absurd (let z : ◌≡◌ {A = ℕ} 0 1 = cc in omega arith)
     go false b true d q = cc
     go false b false true q = cc
     go false b false false q = absurd (let z : ◌≡◌ {A = ℕ} 0 1 = cc in omega arith)
 
-refused_stays : (n r m : ℕ) (y : Row) → beside n r (Refused m) ≡ Names y → ⊥
+refused_stays : (n r : ℕ) (m : Reason) (y : Row) → beside n r (Err m) ≡ Ok y → ⊥
 unfolding beside
 refused_stays n r m y d = let z : ◌≡◌ {A = ℕ} 0 1 = cc in omega arith
 
 -- a coder frame that is not refused beside coder frames is of their rate
-pub rate-kept : (n r : ℕ) (e : Ending) (y : Row) → beside n r e ≡ Names y → (r ≡ 0 → ⊥) → (rate y ≡ 0 → ⊥) → rate y ≡ r
-rate-kept n r (Refused m) y q a b = absurd (refused_stays n r m y q)
-rate-kept n r (Names x) y q a b = go (ℕ_discrete (rate y) r)
+pub rate-kept : (n r : ℕ) (e : Result Row Reason) (y : Row) → beside n r e ≡ Ok y → (r ≡ 0 → ⊥) → (rate y ≡ 0 → ⊥) → rate y ≡ r
+rate-kept n r (Err m) y q a b = absurd (refused_stays n r m y q)
+rate-kept n r (Ok x) y q a b = go (ℕ_discrete (rate y) r)
   where
     go : Dec (rate y ≡ r) → rate y ≡ r
     go (yes m) = m
     go (no m) =
-        let d : Refused 8 ≡ Names y = sym (coder_mixed n r y b a m) ∙ ap (λ (w : Row). beside n r (Names w)) (sym (beside_same n r x y q)) ∙ q in
+        let d : Err RatesMixed ≡ Ok y = sym (coder_mixed n r y b a m) ∙ ap (λ (w : Row). beside n r (Ok w)) (sym (beside_same n r x y q)) ∙ q in
         absurd (let z : ◌≡◌ {A = ℕ} 0 1 = cc in omega arith)
 
 -- ---- ticks

@@ -6,11 +6,11 @@ use native.Mathlib.Omega.{arith}
 use lib.Dec.{T, ltb, eqb, leb→le, eqb→eq}
 use lib.ListN.{length, get_or}
 use borrow.Author.Tests.{le-ltb}
+use Rattle.std.specs.Prelude.{Ok}
 use Rattle.wire.specs.Frame.{LegalRow, base, top, code, count_of, body_octets, wire_octets, wire_of}
 use Rattle.wire.specs.Walk.{named, counted, ending, whole, last_frame}
-use Rattle.wire.specs.declared.Framing.{Framing}
-use Rattle.wire.specs.declared.Row.{Row}
-use Rattle.wire.specs.declared.Ending.TheVariants.{Names}
+use Rattle.wire.specs.declared.Framing.{Framing, Framing}
+use Rattle.wire.specs.declared.Row.{Row, Row}
 use Rattle.wire.proofs.TableLaws.{first, second, each, at_number, bounds, octet}
 use Rattle.wire.proofs.NameLaws.{agrees, same, same_is, named_by, row_named}
 use Rattle.wire.proofs.Octets.{wire-base, wire_count}
@@ -35,7 +35,7 @@ module _ (fr : Framing) where
     count_octet i j cs c l e =
         ap (λ (n : ℕ). get_or p n 0) e ∙ h.reads (body_octets x + i) (omega arith) ∙ wire_count fr x b h.size i ∙ ap (λ (l : List ℕ). get_or l i 0) c
 
-    ending_by : (cs : List ℕ) → count_of x ≡ cs → T (named_by fr x cs) → ending fr p u ≡ Names x
+    ending_by : (cs : List ℕ) → count_of x ≡ cs → T (named_by fr x cs) → ending fr p u ≡ Ok x
     ending_by [] c t =
         let w = bounds x.kind in
         let v = octet fr x.kind in
@@ -58,7 +58,7 @@ module _ (fr : Framing) where
         ending_two fr p u c (omega (arith, h.unread)) (omega (arith, e)) e₂ ∙ same_is (counted c) x (second (eqb d 255) (same (counted c) x) t)
     ending_by (c ∷ d ∷ f ∷ cs) q t = absurd t
 
-    pub last_wire : last_frame fr p u ≡ Names x
+    pub last_wire : last_frame fr p u ≡ Ok x
     unfolding last_frame whole
     last_wire =
         let w = bounds x.kind in

@@ -3,10 +3,11 @@ use mathlib.Core.Path.{◌≡◌, refl}
 use mathlib.Core.List.{List, [], ◌∷◌, ◌++◌, map}
 use Prim.Native.Nat.{ℕ}
 use lib.ListN.{replicate}
-use Rattle.refusal.specs.Report.{Report, accepted, refused_with, refusal}
+use Rattle.refusal.specs.Report.{Report, accepted, refused_with, refusal, refusal}
+use Rattle.refusal.specs.declared.Reason.TheVariants.{AugmentationNot2400, RatesMixed}
 use Rattle.wire.specs.Frame.{count_in, numbers_of, rows_of, bodies_of}
 use Rattle.wire.specs.Walk.{Walk, at, refused, named, counted, ending, whole, last_frame, beside, read_of}
-use Rattle.wire.specs.declared.Framing.{Framing}
+use Rattle.wire.specs.declared.Framing.{Framing, Framing}
 use Rattle.wire.specs.declared.Framing.TheVariants.{Unframed, Framed2400, Framed600}
 
 -- the rows' numbers and the bodies, or the refusal
@@ -37,15 +38,15 @@ lines =
     ∷ (Framed600, seven 64, accepted (3 ∷ 0 ∷ [], seven 64))
     ∷ (Framed600, zeros 7, accepted (3 ∷ 0 ∷ [], zeros 7))
     ∷ (Framed2400, seven 127, accepted (1 ∷ 0 ∷ [], seven 127))
-    ∷ (Unframed, short 100, refused_with ([], []) (refusal 7 23))
+    ∷ (Unframed, short 100, refused_with ([], []) (refusal AugmentationNot2400 23))
     ∷ (Framed2400, short 100, accepted (5 ∷ 15 ∷ [], seven 100 ++ zeros 15))
-    ∷ (Framed2400, short 128, refused_with ([], []) (refusal 7 23))
-    ∷ (Framed600, short 128, refused_with ([], []) (refusal 7 23))
-    ∷ (Framed600, short 0, refused_with ([], []) (refusal 8 23))
-    ∷ (Framed600, long 0, refused_with ([], []) (refusal 8 24))
+    ∷ (Framed2400, short 128, refused_with ([], []) (refusal AugmentationNot2400 23))
+    ∷ (Framed600, short 128, refused_with ([], []) (refusal AugmentationNot2400 23))
+    ∷ (Framed600, short 0, refused_with ([], []) (refusal RatesMixed 23))
+    ∷ (Framed600, long 0, refused_with ([], []) (refusal RatesMixed 24))
     ∷ (Framed2400, long 100, accepted (6 ∷ 15 ∷ [], seven 100 ++ zeros 15))
-    ∷ (Framed2400, zeros 10 ++ (129 ∷ []), refused_with ([], []) (refusal 8 11))
-    ∷ (Framed600, zeros 10 ++ (129 ∷ []), refused_with ([], []) (refusal 8 11))
+    ∷ (Framed2400, zeros 10 ++ (129 ∷ []), refused_with ([], []) (refusal RatesMixed 11))
+    ∷ (Framed600, zeros 10 ++ (129 ∷ []), refused_with ([], []) (refusal RatesMixed 11))
     ∷ (Framed600, 0 ∷ 160 ∷ [], accepted (4 ∷ 0 ∷ [], zeros 2))
     ∷ (Framed2400, [], accepted ([], []))
     ∷ []

@@ -7,14 +7,16 @@ use native.Mathlib.Omega.{arith}
 use lib.ListN.{length, get_or, set, take, drop, length-set, length-drop, take-append-drop}
 use lib.Seq.{get_or-take, get_or-drop, get_or-set_same, take-add, drop-drop, ext_get_or, set-set, set-get_or, length-take-le, drop-length}
 use borrow.Author.Tests.{lt-ltb, le-ltb}
+use Rattle.std.specs.Prelude.{Result, Ok, Err}
+use Rattle.refusal.specs.declared.Reason.TheVariants.{TooLong}
+use Rattle.refusal.specs.declared.Reason.{Reason}
+use Rattle.refusal.specs.Numbers.{number_of}
 use Rattle.octets.specs.Octet.{Octets}
 use Rattle.octets.proofs.Octet.{octets_drop, octets_take, octets_set}
 use Rattle.wire.specs.Frame.{Frame, agreed_rate, AgreedOn, LegalBody, LegalBodies, base, code, count_of, body_octets, wire_octets, wire, octets_of, rows_of, OfRate, Legal}
 use Rattle.wire.specs.Walk.{last_frame, beside, rate_of, over, next, frame_at, run, read_of, Walk, at, refused}
-use Rattle.wire.specs.declared.Framing.{Framing}
-use Rattle.wire.specs.declared.Row.{Row}
-use Rattle.wire.specs.declared.Ending.{Ending}
-use Rattle.wire.specs.declared.Ending.TheVariants.{Refused, Names}
+use Rattle.wire.specs.declared.Framing.{Framing, Framing}
+use Rattle.wire.specs.declared.Row.{Row, Row}
 use Rattle.octets.proofs.Order.{below_or}
 use Rattle.wire.proofs.TableLaws.{bounds}
 use Rattle.wire.proofs.Octets.{length_octets}
@@ -102,22 +104,22 @@ module _ (fr : Framing) where
 
   abbrev pub Kept : List ℕ → Walk → Type 0
   Kept p (at u behind) = ReadSoFar p u behind
-  Kept p (refused n place behind) = Numbered n × (1 ≤ place) × (place ≤ 1400)
+  Kept p (refused n place behind) = Numbered (number_of n) × (1 ≤ place) × (place ≤ 1400)
 
   module _ (p : List ℕ) (o : Octets p) (short : length p ≤ 1400) where
-    over_keeps : (u : ℕ) (behind : List Frame) → 1 ≤ u → ReadSoFar p u behind → (f : Ending) → Wholes fr p u f
+    over_keeps : (u : ℕ) (behind : List Frame) → 1 ≤ u → ReadSoFar p u behind → (f : Result Row Reason) → Wholes fr p u f
         → Kept p (over fr p u behind (beside (length behind) (rate_of (agreed_rate fr) (rows_of behind)) f))
     unfolding beside
-    over_keeps u behind h v (Refused n) w = (w, h, omega (arith, v.inside))
-    over_keeps u behind h v (Names y) w = go (beside (length behind) (rate_of (agreed_rate fr) (rows_of behind)) (Names y)) refl (beside_keeps fr p u (length behind) (rate_of (agreed_rate fr) (rows_of behind)) (Names y) w)
+    over_keeps u behind h v (Err n) w = (w, h, omega (arith, v.inside))
+    over_keeps u behind h v (Ok y) w = go (beside (length behind) (rate_of (agreed_rate fr) (rows_of behind)) (Ok y)) refl (beside_keeps fr p u (length behind) (rate_of (agreed_rate fr) (rows_of behind)) (Ok y) w)
       where
-        go : (e : Ending) → beside (length behind) (rate_of (agreed_rate fr) (rows_of behind)) (Names y) ≡ e → Wholes fr p u e → Kept p (over fr p u behind e)
-        go (Refused n) q k = (k, h, omega (arith, v.inside))
-        go (Names x) q k =
+        go : (e : Result Row Reason) → beside (length behind) (rate_of (agreed_rate fr) (rows_of behind)) (Ok y) ≡ e → Wholes fr p u e → Kept p (over fr p u behind e)
+        go (Err n) q k = (k, h, omega (arith, v.inside))
+        go (Ok x) q k =
             let same : y ≡ x = beside_same (length behind) (rate_of (agreed_rate fr) (rows_of behind)) y x q in
-            let found : beside (length (rows_of behind)) (rate_of (agreed_rate fr) (rows_of behind)) (Names x) ≡ Names x =
-            ap (λ (n : ℕ). beside n (rate_of (agreed_rate fr) (rows_of behind)) (Names x)) (length_rows behind)
-            ∙ ap (λ (z : Row). beside (length behind) (rate_of (agreed_rate fr) (rows_of behind)) (Names z)) (sym same) ∙ q in
+            let found : beside (length (rows_of behind)) (rate_of (agreed_rate fr) (rows_of behind)) (Ok x) ≡ Ok x =
+            ap (λ (n : ℕ). beside n (rate_of (agreed_rate fr) (rows_of behind)) (Ok x)) (length_rows behind)
+            ∙ ap (λ (z : Row). beside (length behind) (rate_of (agreed_rate fr) (rows_of behind)) (Ok z)) (sym same) ∙ q in
             record {
               inside = omega (arith, v.inside);
               gives = ap (λ (l : List ℕ). wire fr (frame_at fr p (u - wire_octets x) x) ++ l) v.gives ∙ gives p u x o v.inside k;
@@ -152,7 +154,7 @@ module _ (fr : Framing) where
     where
       go : (1400 < length p) ⊎ (length p ≤ 1400) → length p ≤ 1400
       go (inl h) =
-          let d : refused 1 1400 [] ≡ at u fs = simp (lt-ltb 1400 (length p) h) at e in
+          let d : refused TooLong 1400 [] ≡ at u fs = simp (lt-ltb 1400 (length p) h) at e in
           let z : ◌≡◌ {A = ℕ} 0 1 = cc in absurd (omega arith)
       go (inr h) = h
 
@@ -168,7 +170,7 @@ module _ (fr : Framing) where
         v.gives,
       )
 
-  pub run-refused : (m : ℕ) (p : List ℕ) (n place : ℕ) (behind : List Frame) → run fr m p (refused n place behind) ≡ refused n place behind
+  pub run-refused : (m : ℕ) (p : List ℕ) (n : Reason) (place : ℕ) (behind : List Frame) → run fr m p (refused n place behind) ≡ refused n place behind
   run-refused zero p n place behind = refl
   run-refused (suc m) p n place behind = run-refused m p n place behind
 
@@ -178,9 +180,9 @@ module _ (fr : Framing) where
   ends (suc n) p zero behind h = ends n p zero behind (omega arith)
   ends (suc n) p (suc u) behind h = go (λ v fs l. ends n p v fs l) (beside (length behind) (rate_of (agreed_rate fr) (rows_of behind)) (last_frame fr p (suc u)))
     where
-      go : ((v : ℕ) (fs : List Frame) → v ≤ n → Ended (run fr n p (at v fs))) → (f : Ending) → Ended (run fr n p (over fr p (suc u) behind f))
-      go ih (Refused m) = rw (run-refused n p m (suc u) behind) tt
-      go ih (Names x) = let b = bounds x.kind in ih (suc u - wire_octets x) (frame_at fr p (suc u - wire_octets x) x ∷ behind) (omega arith)
+      go : ((v : ℕ) (fs : List Frame) → v ≤ n → Ended (run fr n p (at v fs))) → (f : Result Row Reason) → Ended (run fr n p (over fr p (suc u) behind f))
+      go ih (Err m) = rw (run-refused n p m (suc u) behind) tt
+      go ih (Ok x) = let b = bounds x.kind in ih (suc u - wire_octets x) (frame_at fr p (suc u - wire_octets x) x ∷ behind) (omega arith)
 
   pub read_ends : (p : List ℕ) → Ended (read_of fr p)
   unfolding read_of
@@ -193,7 +195,7 @@ module _ (fr : Framing) where
   -- ---- the demand: the reader refuses exactly if no legal sequence gives the octets, and else hands that sequence back
 
   pub data Verdict (p : List ℕ) : Walk → Type 0 where
-    none : {n place : ℕ} {behind : List Frame} → ((fs : List Frame) → Legal fr fs → octets_of fr fs ≡ p → ⊥) → Verdict p (refused n place behind)
+    none : {n : Reason} {place : ℕ} {behind : List Frame} → ((fs : List Frame) → Legal fr fs → octets_of fr fs ≡ p → ⊥) → Verdict p (refused n place behind)
     only : {fs : List Frame} → Legal fr fs → octets_of fr fs ≡ p → ((gs : List Frame) → Legal fr gs → octets_of fr gs ≡ p → gs ≡ fs) → Verdict p (at 0 fs)
 
   pub verdict : (p : List ℕ) → Octets p → Verdict p (read_of fr p)

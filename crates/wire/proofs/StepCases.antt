@@ -3,21 +3,21 @@ use mathlib.Core.Path.{◌≡◌, refl, sym, ap, ◌∙◌}
 use Prim.Native.Nat.{ℕ, ◌+◌, ◌-◌, ◌≤◌, ◌<◌}
 use mathlib.Core.List.{List}
 use native.Mathlib.Omega.{arith}
+use native.Mathlib.Decide.{ℕ_discrete}
 use lib.ListN.{length, get_or}
 use borrow.Author.Tests.{lt-ltb, le-ltb}
+use Rattle.std.specs.Prelude.{Result, Ok, Err}
+use Rattle.refusal.specs.declared.Reason.TheVariants.{FrameCut, ComfortNoiseNotLast, AugmentationNot2400, RatesMixed}
+use Rattle.refusal.specs.declared.Reason.{Reason}
 use Rattle.wire.specs.Frame.{row, table, entry_in, count_in, count_of, base, code, top, rate, wire_octets}
 use Rattle.wire.specs.Walk.{low_kind, named, whole, last_frame, beside, ending}
-use Rattle.wire.specs.declared.Framing.{Framing}
-use Rattle.wire.specs.declared.Kind.{Kind}
+use Rattle.wire.specs.declared.Framing.{Framing, Framing}
+use Rattle.wire.specs.declared.Kind.{Kind, Kind}
 use Rattle.wire.specs.declared.Kind.TheVariants.{ComfortNoise, Tsvcis}
 use Rattle.wire.specs.Answers.{shape_of, step_of}
-use Rattle.wire.specs.declared.Entry.{Entry}
-use Rattle.wire.specs.declared.Row.{Row}
-use Rattle.wire.specs.declared.Shape.{Shape}
-use Rattle.wire.specs.declared.Ending.{Ending}
-use Rattle.wire.specs.declared.Ending.TheVariants.{Refused, Names}
-use Rattle.wire.specs.declared.Step.{Step}
-use Rattle.wire.specs.declared.Step.TheVariants as step
+use Rattle.wire.specs.declared.Entry.{Entry, Entry}
+use Rattle.wire.specs.declared.Row.{Row, Row}
+use Rattle.wire.specs.declared.Shape.{Shape, Shape}
 use Rattle.wire.proofs.TableLaws.{bounds, octet}
 use Rattle.wire.proofs.Endings.{ending_one}
 use Rattle.wire.proofs.Rates.{noise_first, noise_late, coder_first, coder_same, coder_mixed}
@@ -45,13 +45,13 @@ module _ (fr : Framing) where
     rate_is : s.entry.rate ≡ rate x
     rate_is = ap (λ (y : Shape). y.entry.rate) e
 
-    pub admit_cut : u < s.wire → step.Refused 2 ≡ step_of fr (beside n r (whole fr p u (Names x)))
+    pub admit_cut : u < s.wire → Err FrameCut ≡ step_of fr (beside n r (whole fr p u (Ok x)))
     unfolding beside whole
     admit_cut h = let l : u < wire_octets x = rw e at h in simp (lt-ltb u (wire_octets x) l)
 
     module _ (h : s.wire ≤ u) where
       pub admit_foreign : s.entry.code + s.entry.top < get_or p (u - s.wire + (s.entry.octets - 1)) 0
-          → step.Refused 7 ≡ step_of fr (beside n r (whole fr p u (Names x)))
+          → Err AugmentationNot2400 ≡ step_of fr (beside n r (whole fr p u (Ok x)))
       unfolding beside whole
       admit_foreign b =
           let l : wire_octets x ≤ u = rw e at h in
@@ -59,57 +59,55 @@ module _ (fr : Framing) where
           simp (le-ltb u (wire_octets x) l, lt-ltb (code fr x + top fr x) (get_or p (u - wire_octets x + (base x - 1)) 0) c)
 
       module _ (b : get_or p (u - s.wire + (s.entry.octets - 1)) 0 ≤ s.entry.code + s.entry.top) where
-        is_whole : whole fr p u (Names x) ≡ Names x
+        is_whole : whole fr p u (Ok x) ≡ Ok x
         unfolding whole
         is_whole =
             let l : wire_octets x ≤ u = rw e at h in
             let c : get_or p (u - wire_octets x + (base x - 1)) 0 ≤ code fr x + top fr x = rw e at b in
             simp (le-ltb u (wire_octets x) l, le-ltb (code fr x + top fr x) (get_or p (u - wire_octets x + (base x - 1)) 0) c)
 
-        comes_to : (f : Ending) → beside n r (Names x) ≡ f → step_of fr f ≡ step_of fr (beside n r (whole fr p u (Names x)))
+        comes_to : (f : Result Row Reason) → beside n r (Ok x) ≡ f → step_of fr f ≡ step_of fr (beside n r (whole fr p u (Ok x)))
         comes_to f q = ap (step_of fr) (sym q ∙ ap (beside n r) (sym is_whole))
 
-        pub admit_noise : s.entry.rate ≡ 0 → n ≡ 0 → step.Over s ≡ step_of fr (beside n r (whole fr p u (Names x)))
-        admit_noise z m = ap step.Over e ∙ comes_to (Names x) (noise_first n r x (sym rate_is ∙ z) m)
+        pub admit_late : s.entry.rate ≡ 0 → (n ≡ 0 → ⊥) → Err ComfortNoiseNotLast ≡ step_of fr (beside n r (whole fr p u (Ok x)))
+        admit_late z m = comes_to (Err ComfortNoiseNotLast) (noise_late n r x (sym rate_is ∙ z) m)
 
-        pub admit_late : s.entry.rate ≡ 0 → (n ≡ 0 → ⊥) → step.Refused 6 ≡ step_of fr (beside n r (whole fr p u (Names x)))
-        admit_late z m = comes_to (Refused 6) (noise_late n r x (sym rate_is ∙ z) m)
+        pub admit_mixed : (s.entry.rate ≡ 0 → ⊥) → (r ≡ 0 → ⊥) → (s.entry.rate ≡ r → ⊥) → Err RatesMixed ≡ step_of fr (beside n r (whole fr p u (Ok x)))
+        admit_mixed z q m = comes_to (Err RatesMixed) (coder_mixed n r x (λ d. z (rate_is ∙ d)) q (λ d. m (rate_is ∙ d)))
 
-        module _ (z : s.entry.rate ≡ 0 → ⊥) where
-          pub admit_first : r ≡ 0 → step.Over s ≡ step_of fr (beside n r (whole fr p u (Names x)))
-          admit_first m = ap step.Over e ∙ comes_to (Names x) (coder_first n r x (λ d. z (rate_is ∙ d)) m)
-
-          pub admit_same : s.entry.rate ≡ r → step.Over s ≡ step_of fr (beside n r (whole fr p u (Names x)))
-          admit_same m = ap step.Over e ∙ comes_to (Names x) (coder_same n r x (λ d. z (rate_is ∙ d)) (sym rate_is ∙ m))
-
-          pub admit_mixed : (r ≡ 0 → ⊥) → (s.entry.rate ≡ r → ⊥) → step.Refused 8 ≡ step_of fr (beside n r (whole fr p u (Names x)))
-          admit_mixed q m = comes_to (Refused 8) (coder_mixed n r x (λ d. z (rate_is ∙ d)) q (λ d. m (rate_is ∙ d)))
+        pub admit_passes : (s.entry.rate ≡ 0 → n ≡ 0) → ((s.entry.rate ≡ 0 → ⊥) → (r ≡ 0 → ⊥) → s.entry.rate ≡ r) → Ok s ≡ step_of fr (beside n r (whole fr p u (Ok x)))
+        admit_passes late mixed = ap Ok e ∙ comes_to (Ok x) (go (ℕ_discrete s.entry.rate 0) (ℕ_discrete r 0))
+          where
+            go : Dec (s.entry.rate ≡ 0) → Dec (r ≡ 0) → beside n r (Ok x) ≡ Ok x
+            go (yes z) q = noise_first n r x (sym rate_is ∙ z) (late z)
+            go (no z) (yes q) = coder_first n r x (λ d. z (rate_is ∙ d)) q
+            go (no z) (no q) = coder_same n r x (λ d. z (rate_is ∙ d)) (sym rate_is ∙ mixed z q)
 
   -- what was identified, put to the same
-  module _ (p : List ℕ) (u n r : ℕ) {e : Ending} (i : e ≡ ending fr p u) where
-    pub step_refused : (m : ℕ) → e ≡ Refused m → step.Refused m ≡ step_of fr (beside n r (last_frame fr p u))
+  module _ (p : List ℕ) (u n r : ℕ) {e : Result Row Reason} (i : e ≡ ending fr p u) where
+    pub step_refused : (m : Reason) → e ≡ Err m → Err m ≡ step_of fr (beside n r (last_frame fr p u))
     unfolding last_frame beside whole
     step_refused m q = rw (sym i ∙ q)
 
-    pub step_names : (x : Row) → e ≡ Names x → {s : Step} → s ≡ step_of fr (beside n r (whole fr p u (Names x))) → s ≡ step_of fr (beside n r (last_frame fr p u))
+    pub step_names : (x : Row) → e ≡ Ok x → {s : Result Shape Reason} → s ≡ step_of fr (beside n r (whole fr p u (Ok x))) → s ≡ step_of fr (beside n r (last_frame fr p u))
     unfolding last_frame
-    step_names x q a = a ∙ ap (λ (f : Ending). step_of fr (beside n r (whole fr p u f))) (sym q ∙ i)
+    step_names x q a = a ∙ ap (λ (f : Result Row Reason). step_of fr (beside n r (whole fr p u f))) (sym q ∙ i)
 
   -- a last octet that names a frame by itself
-  pub step_octet : (p : List ℕ) (u n r x : ℕ) (y : Row) → 1 ≤ u → get_or p (u - 1) 0 ≡ x → x < 255 → Names y ≡ named fr x → {s : Step} → s ≡ step_of fr (beside n r (whole fr p u (Names y)))
+  pub step_octet : (p : List ℕ) (u n r x : ℕ) (y : Row) → 1 ≤ u → get_or p (u - 1) 0 ≡ x → x < 255 → Ok y ≡ named fr x → {s : Result Shape Reason} → s ≡ step_of fr (beside n r (whole fr p u (Ok y)))
       → s ≡ step_of fr (beside n r (last_frame fr p u))
   step_octet p u n r x y l e h q a = step_names p u n r refl y (ending_one fr p u x l e h ∙ sym q) a
 
-  pub names_low : (x : ℕ) → x < 128 → {k : Kind} → k ≡ low_kind fr x → Names (row k 0) ≡ named fr x
+  pub names_low : (x : ℕ) → x < 128 → {k : Kind} → k ≡ low_kind fr x → Ok (row k 0) ≡ named fr x
   unfolding named
-  names_low x h e = simp (lt-ltb x 128 h) (ap (λ (k : Kind). Names (row k 0)) e)
+  names_low x h e = simp (lt-ltb x 128 h) (ap (λ (k : Kind). Ok (row k 0)) e)
 
-  pub names_noise : (x : ℕ) → 160 ≤ x → x < 192 → Names (row ComfortNoise 0) ≡ named fr x
+  pub names_noise : (x : ℕ) → 160 ≤ x → x < 192 → Ok (row ComfortNoise 0) ≡ named fr x
   unfolding named
   names_noise x l h = simp (le-ltb x 128 (omega arith), le-ltb x 130 (omega arith), le-ltb x 160 (omega arith), lt-ltb x 192 (omega arith))
 
-  pub names_short : (x t : ℕ) → 192 ≤ x → t ≡ x - 177 → Names (row Tsvcis t) ≡ named fr x
+  pub names_short : (x t : ℕ) → 192 ≤ x → t ≡ x - 177 → Ok (row Tsvcis t) ≡ named fr x
   unfolding named
   names_short x t l e =
       simp (le-ltb x 128 (omega arith), le-ltb x 130 (omega arith), le-ltb x 160 (omega arith), le-ltb x 192 (omega arith))
-      (ap (λ (n : ℕ). Names (row Tsvcis n)) (omega arith))
+      (ap (λ (n : ℕ). Ok (row Tsvcis n)) (omega arith))

@@ -3,16 +3,16 @@ use mathlib.Core.Path.{◌≡◌, refl, sym, ap, ◌∙◌, subst}
 use mathlib.Core.Logic.{◌⊎◌, inl, inr}
 use mathlib.Core.Bool.{Bool, true, false, cond, ◌&&◌, ◌||◌}
 use mathlib.Core.List.{List, [], ◌∷◌}
-use mathlib.Core.Option.{some}
 use Prim.Native.Nat.{ℕ, zero, suc, ◌+◌, ◌-◌, ◌≤◌, ◌<◌}
 use native.Mathlib.Omega.{arith}
 use native.Mathlib.Decide.{ℕ_discrete}
 use lib.Dec.{T, leb, eqb, leb→le, eqb→eq}
 use lib.ListN.{length}
+use Rattle.std.specs.Prelude.{Some}
 use Rattle.wire.specs.Frame.{framings, entry_in, kinds, table, look_up, kind_of, is_short, count_in}
-use Rattle.wire.specs.declared.Framing.{Framing}
+use Rattle.wire.specs.declared.Framing.{Framing, Framing}
 use Rattle.wire.specs.declared.Framing.TheVariants.{Unframed, Framed2400, Framed600}
-use Rattle.wire.specs.declared.Kind.{Kind}
+use Rattle.wire.specs.declared.Kind.{Kind, Kind}
 use Rattle.wire.specs.declared.Kind.TheVariants.{Bps2400, Bps1200, Bps600, ComfortNoise, Tsvcis, TsvcisLong}
 use Rattle.wire.specs.declared.Counting.{Counting}
 use Rattle.wire.specs.declared.Counting.TheVariants.{Uncounted, ShortOrLong, Long}
@@ -30,7 +30,7 @@ second false b h = absurd h
 -- ---- every kind
 
 -- the table's numbers tell its kinds apart
-pub kind_of_lem : (k : Kind) → kind_of (table k).number ≡ some k
+pub kind_of_lem : (k : Kind) → kind_of (table k).number ≡ Some k
 kind_of_lem Bps2400 = refl
 kind_of_lem Bps1200 = refl
 kind_of_lem Bps600 = refl
@@ -39,18 +39,18 @@ kind_of_lem Tsvcis = refl
 kind_of_lem TsvcisLong = refl
 
 pub same_number : (j k : Kind) → (table j).number ≡ (table k).number → j ≡ k
-same_number j k e = let q : some j ≡ some k = sym (kind_of_lem j) ∙ ap kind_of e ∙ kind_of_lem k in cc
+same_number j k e = let q : Some j ≡ Some k = sym (kind_of_lem j) ∙ ap kind_of e ∙ kind_of_lem k in cc
 
 -- the test f passes at each of the kinds
 abbrev pub every : (Kind → Bool) → List Kind → Bool
 every f [] = true
 every f (k ∷ ks) = f k && every f ks
 
-found : (f : Kind → Bool) (n : ℕ) (k : Kind) (ks : List Kind) → T (every f ks) → look_up n ks ≡ some k → T (f k)
+found : (f : Kind → Bool) (n : ℕ) (k : Kind) (ks : List Kind) → T (every f ks) → look_up n ks ≡ Some k → T (f k)
 found f n k [] h e = absurd (let z : ◌≡◌ {A = ℕ} 0 1 = cc in omega arith)
 found f n k (j ∷ ks) h e = go (found f n k ks (second (f j) (every f ks) h)) (eqb (table j).number n) e
   where
-    go : (look_up n ks ≡ some k → T (f k)) → (b : Bool) → cond b (some j) (look_up n ks) ≡ some k → T (f k)
+    go : (look_up n ks ≡ Some k → T (f k)) → (b : Bool) → cond b (Some j) (look_up n ks) ≡ Some k → T (f k)
     go rest true d = let q : j ≡ k = cc in subst (λ (i : Kind). T (f i)) q (first (f j) (every f ks) h)
     go rest false d = rest d
 

@@ -9,20 +9,19 @@ use lib.ListN.{length, take}
 use borrow.Author.Tests.{lt-ltb, le-ltb, eq-eqb, ne_eqb}
 use native.Mathlib.Decide.{ℕ_discrete}
 use native.Mathlib.Nat.{add-mul}
+use Rattle.std.specs.Prelude.{Result, Ok, Err}
+use Rattle.refusal.specs.declared.Reason.TheVariants.{TooLong}
+use Rattle.refusal.specs.declared.Reason.{Reason}
+use Rattle.refusal.specs.declared.Refusal.{Refusal}
+use Rattle.refusal.specs.Report.{report_of, refusal}
 use Rattle.octets.specs.Octet.{Octets}
 use Rattle.wire.specs.Frame.{Frame, agreed_rate, rate, ticks, ticks_of_rate, body_octets, wire_octets, sum_of, rows_of, bodies_of}
 use Rattle.wire.specs.Walk.{last_frame, rate_of, beside, over, next, frame_at, run, read_of, Walk, at, refused}
-use Rattle.wire.specs.Answers.{shape_of, step_of, summary_of, walked_of, walked_report, walk_report, Walks}
-use Rattle.wire.specs.declared.Framing.{Framing}
-use Rattle.wire.specs.declared.Row.{Row}
-use Rattle.wire.specs.declared.Shape.{Shape}
-use Rattle.wire.specs.declared.Summary.{Summary}
-use Rattle.wire.specs.declared.Ending.{Ending}
-use Rattle.wire.specs.declared.Ending.TheVariants.{Refused, Names}
-use Rattle.wire.specs.declared.Step.{Step}
-use Rattle.wire.specs.declared.Step.TheVariants as step
-use Rattle.wire.specs.declared.Walked.{Walked}
-use Rattle.wire.specs.declared.Walked.TheVariants as walked
+use Rattle.wire.specs.Answers.{shape_of, step_of, summary_of, walked_of, walk_report, nothing, Walks}
+use Rattle.wire.specs.declared.Framing.{Framing, Framing}
+use Rattle.wire.specs.declared.Row.{Row, Row}
+use Rattle.wire.specs.declared.Shape.{Shape, Shape}
+use Rattle.wire.specs.declared.Summary.{Summary, Summary}
 use Rattle.wire.proofs.TableLaws.{bounds}
 use Rattle.wire.proofs.Endings.{last_take}
 use Rattle.wire.proofs.Octets.{length_bodies}
@@ -89,14 +88,14 @@ module _ (fr : Framing) where
     pub short : length p ≤ 1400
 
   -- the walk's answer has the walk's numbers
-  pub walks : (p : List ℕ) {r : Walked} → r ≡ walked_of (read_of fr p) → Walks fr p r
-  walks p e = record { answer = e; numbers = ap walked_report e ∙ go (read_of fr p) }
+  pub walks : (p : List ℕ) {r : Result Summary Refusal} → r ≡ walked_of (read_of fr p) → Walks fr p r
+  walks p e = record { answer = e; numbers = ap (report_of nothing) e ∙ go (read_of fr p) }
     where
-      go : (w : Walk) → walked_report (walked_of w) ≡ walk_report w
+      go : (w : Walk) → report_of nothing (walked_of w) ≡ walk_report w
       go (at u fs) = refl
       go (refused n place behind) = refl
 
-  pub too_long_lem : (p : List ℕ) → 1400 < length p → walked.Refused (record { number = 1; place = 1400 }) ≡ walked_of (read_of fr p)
+  pub too_long_lem : (p : List ℕ) → 1400 < length p → Err (refusal TooLong 1400) ≡ walked_of (read_of fr p)
   unfolding read_of
   too_long_lem p h = simp (lt-ltb 1400 (length p) h)
 
@@ -118,53 +117,53 @@ module _ (fr : Framing) where
     short = h;
   }
 
-  pub loop_end : (p : List ℕ) (u : ℕ) (s : Summary) (w : ℕ) → Octets p → WalkLoop p u s w → u ≤ 0 → walked.Whole s ≡ walked_of (read_of fr p)
+  pub loop_end : (p : List ℕ) (u : ℕ) (s : Summary) (w : ℕ) → Octets p → WalkLoop p u s w → u ≤ 0 → Ok s ≡ walked_of (read_of fr p)
   loop_end p u s w o h l =
       let z : u ≡ 0 = omega arith in
       let read : read_of fr p ≡ at 0 h.behind = sym h.same ∙ ap (λ (v : ℕ). run fr h.fuel p (at v h.behind)) z ∙ stay fr h.fuel p h.behind in
       let bodies : s.octets ≡ length (bodies_of h.behind) = h.octets ∙ sym (length_bodies fr h.behind (sound fr p h.behind o read).0.bodies) in
       let holds : s ≡ summary_of h.behind = λ i. record { frames = h.frames i; octets = bodies i; rate = h.rate i; ticks = h.ticks i } in
-      ap walked.Whole holds ∙ ap walked_of (sym read)
+      ap Ok holds ∙ ap walked_of (sym read)
 
   -- what a step came to, as the walk has it
-  stopped : (e : Ending) (n : ℕ) {f : Step} → f ≡ step.Refused n → f ≡ step_of fr e → e ≡ Refused n
-  stopped (Refused m) n a b = let q : m ≡ n = cc in ap Refused q
-  stopped (Names x) n a b = absurd (let z : ◌≡◌ {A = ℕ} 0 1 = cc in omega arith)
+  stopped : (e : Result Row Reason) (n : Reason) {f : Result Shape Reason} → f ≡ Err n → f ≡ step_of fr e → e ≡ Err n
+  stopped (Err m) n a b = let q : m ≡ n = cc in ap Err q
+  stopped (Ok x) n a b = absurd (let z : ◌≡◌ {A = ℕ} 0 1 = cc in omega arith)
 
-  pub record WentOver (e : Ending) (s : Shape) : Type 0 where
+  pub record WentOver (e : Result Row Reason) (s : Shape) : Type 0 where
     pub row : Row
-    pub names : e ≡ Names row
+    pub names : e ≡ Ok row
     pub shape : s ≡ shape_of fr row
 
-  went_over : (e : Ending) (s : Shape) {f : Step} → f ≡ step.Over s → f ≡ step_of fr e → WentOver e s
-  went_over (Refused n) s a b = absurd (let z : ◌≡◌ {A = ℕ} 0 1 = cc in omega arith)
-  went_over (Names x) s a b = record { row = x; names = refl; shape = cc }
+  went_over : (e : Result Row Reason) (s : Shape) {f : Result Shape Reason} → f ≡ Ok s → f ≡ step_of fr e → WentOver e s
+  went_over (Err n) s a b = absurd (let z : ◌≡◌ {A = ℕ} 0 1 = cc in omega arith)
+  went_over (Ok x) s a b = record { row = x; names = refl; shape = cc }
 
   module _ (p : List ℕ) (u : ℕ) (s : Summary) (w : ℕ) (h : WalkLoop p u s w) (pos : 1 ≤ u) where
-    here : Ending
+    here : Result Row Reason
     here = beside (length h.behind) (rate_of (agreed_rate fr) (rows_of h.behind)) (last_frame fr p u)
 
-    there : {f : Step} → f ≡ step_of fr (beside s.frames w (last_frame fr (take u p) (length (take u p)))) → f ≡ step_of fr here
+    there : {f : Result Shape Reason} → f ≡ step_of fr (beside s.frames w (last_frame fr (take u p) (length (take u p)))) → f ≡ step_of fr here
     unfolding here
     there e =
         e
-        ∙ ap (λ (x : Ending). step_of fr (beside s.frames w x)) (last_take fr p u (omega (arith, h.few)))
+        ∙ ap (λ (x : Result Row Reason). step_of fr (beside s.frames w x)) (last_take fr p u (omega (arith, h.few)))
         ∙ ap (λ (n : ℕ). step_of fr (beside n w (last_frame fr p u))) h.frames
         ∙ ap (λ (r : ℕ). step_of fr (beside (length h.behind) r (last_frame fr p u))) h.wanted
 
-    goes : (e : Ending) → here ≡ e → next fr p (at u h.behind) ≡ over fr p u h.behind e
+    goes : (e : Result Row Reason) → here ≡ e → next fr p (at u h.behind) ≡ over fr p u h.behind e
     unfolding here
     goes e i = next_at fr p u h.behind pos ∙ ap (over fr p u h.behind) i
 
-    pub loop_refused : (n : ℕ) {f : Step} → f ≡ step.Refused n → f ≡ step_of fr (beside s.frames w (last_frame fr (take u p) (length (take u p))))
-        → walked.Refused (record { number = n; place = u }) ≡ walked_of (read_of fr p)
+    pub loop_refused : (n : Reason) {f : Result Shape Reason} → f ≡ Err n → f ≡ step_of fr (beside s.frames w (last_frame fr (take u p) (length (take u p))))
+        → Err (refusal n u) ≡ walked_of (read_of fr p)
     loop_refused n a e = go h.fuel h.enough h.same
       where
-        go : (f : ℕ) → u ≤ f → run fr f p (at u h.behind) ≡ read_of fr p → walked.Refused (record { number = n; place = u }) ≡ walked_of (read_of fr p)
+        go : (f : ℕ) → u ≤ f → run fr f p (at u h.behind) ≡ read_of fr p → Err (refusal n u) ≡ walked_of (read_of fr p)
         go zero l q = absurd (omega arith)
-        go (suc f) l q = rw (← q, goes (Refused n) (stopped here n a (there e)), run-refused fr f p n u h.behind)
+        go (suc f) l q = rw (← q, goes (Err n) (stopped here n a (there e)), run-refused fr f p n u h.behind)
 
-    module _ (o : Octets p) (x : Shape) {f : Step} (a : f ≡ step.Over x) (e : f ≡ step_of fr (beside s.frames w (last_frame fr (take u p) (length (take u p))))) where
+    module _ (o : Octets p) (x : Shape) {f : Result Shape Reason} (a : f ≡ Ok x) (e : f ≡ step_of fr (beside s.frames w (last_frame fr (take u p) (length (take u p))))) where
       went : WentOver here x
       went = went_over here x a (there e)
 
@@ -213,7 +212,7 @@ module _ (fr : Framing) where
                 behind = frame_at fr p (u - wire_octets y) y ∷ h.behind;
                 fuel = f;
                 enough = omega (arith, fits.some);
-                same = ap (λ (v : ℕ). run fr f p (at (u - v) (frame_at fr p (u - wire_octets y) y ∷ h.behind))) wire ∙ ap (run fr f p) (sym (goes (Names y) went.names)) ∙ q;
+                same = ap (λ (v : ℕ). run fr f p (at (u - v) (frame_at fr p (u - wire_octets y) y ∷ h.behind))) wire ∙ ap (run fr f p) (sym (goes (Ok y) went.names)) ∙ q;
                 frames = omega (arith, d.frames, h.frames);
                 octets = omega (arith, d.octets, h.octets);
                 rate = d.rate ∙ ap (λ (v : ℕ). cond (eqb v 0) s.rate v) rated ∙ ap (λ (v : ℕ). cond (eqb (rate y) 0) v (rate y)) h.rate;

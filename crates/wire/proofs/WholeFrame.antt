@@ -9,13 +9,15 @@ use native.Mathlib.Omega.{arith}
 use lib.Dec.{T, leb, ltb, eqb, leb→le, eqb→eq}
 use lib.ListN.{length, get_or}
 use borrow.Author.Tests.{ltb-false, eq-eqb}
+use Rattle.std.specs.Prelude.{Result, Ok, Err}
+use Rattle.refusal.specs.declared.Reason.TheVariants.{FrameCut, ComfortNoiseNotLast, AugmentationNot2400, RatesMixed}
+use Rattle.refusal.specs.declared.Reason.{Reason}
+use Rattle.refusal.specs.Numbers.{number_of}
 use Rattle.octets.specs.Octet.{Octets}
 use Rattle.wire.specs.Frame.{LegalRow, base, code, top, rate, count_of, body_octets, wire_octets}
 use Rattle.wire.specs.Walk.{named, counted, ending, whole, last_frame, beside}
-use Rattle.wire.specs.declared.Framing.{Framing}
-use Rattle.wire.specs.declared.Row.{Row}
-use Rattle.wire.specs.declared.Ending.{Ending}
-use Rattle.wire.specs.declared.Ending.TheVariants.{Refused, Names}
+use Rattle.wire.specs.declared.Framing.{Framing, Framing}
+use Rattle.wire.specs.declared.Row.{Row, Row}
 use Rattle.octets.proofs.Order.{below_or}
 use Rattle.wire.proofs.TableLaws.{first, second, bounds}
 use Rattle.wire.proofs.NameLaws.{legal, legal_is, refusal, ends_in, name_holds, named_holds, ends_long, long_name_holds, counted_holds}
@@ -42,9 +44,9 @@ module _ (fr : Framing) where
     pub coded : wire_octets x ≤ u → code fr x ≤ get_or p (u - wire_octets x + (base x - 1)) 0
     pub count : wire_octets x ≤ u → (i : ℕ) → i < length (count_of x) → get_or p (u - wire_octets x + (body_octets x + i)) 0 ≡ get_or (count_of x) i 0
 
-  abbrev pub Shows : List ℕ → ℕ → Ending → Type 0
-  Shows p u (Refused n) = Numbered n
-  Shows p u (Names x) = Shown p u x
+  abbrev pub Shows : List ℕ → ℕ → Result Row Reason → Type 0
+  Shows p u (Err n) = Numbered (number_of n)
+  Shows p u (Ok x) = Shown p u x
 
   module _ (p : List ℕ) (u : ℕ) where
     -- one octet names the frame: its base's last, or its count
@@ -95,13 +97,13 @@ module _ (fr : Framing) where
         both w (suc (suc i)) j ct dl n = absurd (omega arith)
     shown_two t e e₂ x l (c ∷ d ∷ f ∷ cs) q h = absurd h
 
-    shows_one : (y : ℕ) → get_or p (u - 1) 0 ≡ y → (e : Ending) → T (name_holds fr y e) → Shows p u e
-    shows_one y q (Refused n) h = numbered n h
-    shows_one y q (Names x) h = shown_one y q x (legal_is x (first (legal x) _ h)) (count_of x) refl (second (legal x) (ends_in fr y x (count_of x)) h)
+    shows_one : (y : ℕ) → get_or p (u - 1) 0 ≡ y → (e : Result Row Reason) → T (name_holds fr y e) → Shows p u e
+    shows_one y q (Err n) h = numbered (number_of n) h
+    shows_one y q (Ok x) h = shown_one y q x (legal_is x (first (legal x) _ h)) (count_of x) refl (second (legal x) (ends_in fr y x (count_of x)) h)
 
-    shows_two : (t : ℕ) → get_or p (u - 1) 0 ≡ 255 → get_or p (u - 2) 0 ≡ t → (e : Ending) → T (long_name_holds fr t e) → Shows p u e
-    shows_two t q r (Refused n) h = numbered n h
-    shows_two t q r (Names x) h = shown_two t q r x (legal_is x (first (legal x) _ h)) (count_of x) refl (second (legal x) (ends_long fr t x (count_of x)) h)
+    shows_two : (t : ℕ) → get_or p (u - 1) 0 ≡ 255 → get_or p (u - 2) 0 ≡ t → (e : Result Row Reason) → T (long_name_holds fr t e) → Shows p u e
+    shows_two t q r (Err n) h = numbered (number_of n) h
+    shows_two t q r (Ok x) h = shown_two t q r x (legal_is x (first (legal x) _ h)) (count_of x) refl (second (legal x) (ends_long fr t x (count_of x)) h)
 
     pub ending_shows : Octets p → 1 ≤ u → Shows p u (ending fr p u)
     ending_shows o h = go (below_or (get_or p (u - 1) 0) 255) (below_or 1 u)
@@ -123,17 +125,17 @@ module _ (fr : Framing) where
     pub high : get_or p (u - wire_octets x + (base x - 1)) 0 ≤ code fr x + top fr x
     pub count : (i : ℕ) → i < length (count_of x) → get_or p (u - wire_octets x + (body_octets x + i)) 0 ≡ get_or (count_of x) i 0
 
-  abbrev pub Wholes : List ℕ → ℕ → Ending → Type 0
-  Wholes p u (Refused n) = Numbered n
-  Wholes p u (Names x) = Whole p u x
+  abbrev pub Wholes : List ℕ → ℕ → Result Row Reason → Type 0
+  Wholes p u (Err n) = Numbered (number_of n)
+  Wholes p u (Ok x) = Whole p u x
 
-  whole_says : (p : List ℕ) (u : ℕ) (e : Ending) → Shows p u e → Wholes p u (whole fr p u e)
+  whole_says : (p : List ℕ) (u : ℕ) (e : Result Row Reason) → Shows p u e → Wholes p u (whole fr p u e)
   unfolding whole
-  whole_says p u (Refused n) s = s
-  whole_says p u (Names x) s = go (ltb u (wire_octets x)) refl (ltb (code fr x + top fr x) (get_or p (u - wire_octets x + (base x - 1)) 0)) refl
+  whole_says p u (Err n) s = s
+  whole_says p u (Ok x) s = go (ltb u (wire_octets x)) refl (ltb (code fr x + top fr x) (get_or p (u - wire_octets x + (base x - 1)) 0)) refl
     where
       go : (a : Bool) → ltb u (wire_octets x) ≡ a → (b : Bool) → ltb (code fr x + top fr x) (get_or p (u - wire_octets x + (base x - 1)) 0) ≡ b
-          → Wholes p u (cond a (Refused 2) (cond b (Refused 7) (Names x)))
+          → Wholes p u (cond a (Err FrameCut) (cond b (Err AugmentationNot2400) (Ok x)))
       go true d b e = (omega arith, omega arith, λ e. omega arith)
       go false d true e = (omega arith, omega arith, λ e. omega arith)
       go false d false e =
@@ -145,12 +147,12 @@ module _ (fr : Framing) where
   last_says p u o h = whole_says p u (ending fr p u) (ending_shows p u o h)
 
   -- a frame that the walk reads is whole
-  pub beside_keeps : (p : List ℕ) (u n r : ℕ) (e : Ending) → Wholes p u e → Wholes p u (beside n r e)
+  pub beside_keeps : (p : List ℕ) (u n r : ℕ) (e : Result Row Reason) → Wholes p u e → Wholes p u (beside n r e)
   unfolding beside
-  beside_keeps p u n r (Refused m) w = w
-  beside_keeps p u n r (Names x) w = go (eqb (rate x) 0) (eqb n 0) (eqb r 0) (eqb (rate x) r)
+  beside_keeps p u n r (Err m) w = w
+  beside_keeps p u n r (Ok x) w = go (eqb (rate x) 0) (eqb n 0) (eqb r 0) (eqb (rate x) r)
     where
-      go : (a b c d : Bool) → Wholes p u (cond a (cond b (Names x) (Refused 6)) (cond c (Names x) (cond d (Names x) (Refused 8))))
+      go : (a b c d : Bool) → Wholes p u (cond a (cond b (Ok x) (Err ComfortNoiseNotLast)) (cond c (Ok x) (cond d (Ok x) (Err RatesMixed))))
       go true true c d = w
       go true false c d = (omega arith, omega arith, λ e. omega arith)
       go false b true d = w

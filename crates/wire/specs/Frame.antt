@@ -1,7 +1,6 @@
 -- docs/FORMAT.md, "Frames", "Sessions" and "Legal sequences", said forwards: the table of kinds, rows, frames, the octets that frames
 -- give, and the legal sequences. Nothing here says how octets are read.
-use Rattle.std.specs.Prelude.{◌≡◌, Bool, cond, ◌&&◌, ◌||◌, ◌⊎◌, List, [], ◌∷◌, ◌++◌, ℕ, zero, suc, ◌+◌, ◌-◌, ◌≤◌, leb, ltb, eqb, length, get_or, set}
-use Rattle.std.proofs.Math.Option.{Option, none, some}
+use Rattle.std.specs.Prelude.{◌≡◌, Bool, cond, ◌&&◌, ◌||◌, ◌⊎◌, List, [], ◌∷◌, ◌++◌, ℕ, zero, suc, ◌+◌, ◌-◌, ◌≤◌, leb, ltb, eqb, length, get_or, set, Option, Some, None}
 use Rattle.octets.specs.Octet.{Octets}
 use Rattle.wire.specs.declared.Session.{Session}
 use Rattle.wire.specs.declared.Session.TheVariants.{NotAgreed, Agreed}
@@ -38,8 +37,8 @@ table TsvcisLong = augmented_entry 6 15 77 Long
 
 -- the kind of a number, looked up among kinds
 abbrev pub look_up : ℕ → List Kind → Option Kind
-look_up n [] = none
-look_up n (k ∷ ks) = cond (eqb (table k).number n) (some k) (look_up n ks)
+look_up n [] = None
+look_up n (k ∷ ks) = cond (eqb (table k).number n) (Some k) (look_up n ks)
 
 -- the kind of a number in a row, if it is one
 abbrev pub kind_of : ℕ → Option Kind
@@ -53,8 +52,8 @@ framings = Unframed ∷ Framed2400 ∷ Framed600 ∷ []
 
 -- the framing of a session record, if it is a legal one: "framing not agreed, or agreed with the rate 2400 or 600"
 abbrev pub framing_of : Session → Option Framing
-framing_of NotAgreed = some Unframed
-framing_of (Agreed r) = cond (eqb r 2400) (some Framed2400) (cond (eqb r 600) (some Framed600) none)
+framing_of NotAgreed = Some Unframed
+framing_of (Agreed r) = cond (eqb r 2400) (Some Framed2400) (cond (eqb r 600) (Some Framed600) None)
 
 -- the rate agreed; 0 where framing is not
 abbrev pub agreed_rate : Framing → ℕ

@@ -7,36 +7,32 @@ ghost use Rattle.wire.specs.Frame.{plain_entry, augmented_entry, table, agreed_r
 ghost use Rattle.wire.specs.Walk.{low_kind, named, counted, whole, beside, last_frame, read_of};
 ghost use Rattle.wire.specs.Answers.{KindKnown, FramingKnown, Identified, shape_of, step_of, walked_of, Walks};
 ghost use Rattle.wire.specs.declared.Framing.TheVariants.{Unframed};
-ghost use Rattle.wire.specs.declared.Counting.TheVariants.{ShortOrLong};
 
-use refusal::Refusal;
+use refusal::{Reason, Refusal};
 
-const MOST_OCTETS: usize = 1400;
+// The most octets of a payload.
+pub const MOST_OCTETS: usize = 1400;
+
+// The most frames that so many octets can hold.
+pub const MOST_FRAMES: usize = 200;
 
 // What a session says of the end-to-end framing bit: not agreed, or agreed with a rate, where any number may stand.
-#[derive(Clone, Copy)]
+#[derive(Clone, Copy, Debug, PartialEq, Eq, Hash)]
 pub enum Session {
     NotAgreed,
     Agreed(u32),
 }
 
 // The legal sessions: without a framing bit, or with one in frames of 2400 or 600 bps.
-#[derive(Clone, Copy)]
+#[derive(Clone, Copy, Debug, PartialEq, Eq, Hash)]
 pub enum Framing {
     Unframed,
     Framed2400,
     Framed600,
 }
 
-// The framing of a session, if it is a legal one.
-#[derive(Clone, Copy)]
-pub enum KnownFraming {
-    Unknown,
-    Is(Framing),
-}
-
 // The kinds of frames.
-#[derive(Clone, Copy)]
+#[derive(Clone, Copy, Debug, PartialEq, Eq, Hash)]
 pub enum Kind {
     Bps2400,
     Bps1200,
@@ -46,15 +42,8 @@ pub enum Kind {
     TsvcisLong,
 }
 
-// The kind of a number in a row, if it is one.
-#[derive(Clone, Copy)]
-pub enum Known {
-    Unknown,
-    Is(Kind),
-}
-
 // How a frame's TC is counted behind its body: not at all; in one octet where that is long enough, else in two; always in two.
-#[derive(Clone, Copy)]
+#[derive(Clone, Copy, Debug, PartialEq, Eq)]
 pub enum Counting {
     Uncounted,
     ShortOrLong,
@@ -62,8 +51,9 @@ pub enum Counting {
 }
 
 // A kind's numbers: its number in a row; the octets of its base, the rate code bits in their last one and the most that the body has
-// there; its rate (0 of comfort noise); the least and the most TC; how that is counted.
-#[derive(Clone, Copy)]
+// there; its rate (0 of comfort noise); the least and the most TC; how that is counted. A rate is a number, 0 for none, here and below, since the
+// legal sequences (`OfRate`, `Stands` of specs/Frame) compare rates as numbers, and callers may hand in any number as one.
+#[derive(Clone, Copy, Debug, PartialEq, Eq)]
 pub struct Entry {
     pub number: u16,
     pub octets: usize,
@@ -76,14 +66,14 @@ pub struct Entry {
 }
 
 // A frame's kind and TC.
-#[derive(Clone, Copy)]
+#[derive(Clone, Copy, Debug, PartialEq, Eq)]
 pub struct Row {
     pub kind: Kind,
     pub tc: u16,
 }
 
 // A frame's numbers: its kind's, its TC, and the octets of its count, its body, and all that stands on the wire.
-#[derive(Clone, Copy)]
+#[derive(Clone, Copy, Debug, PartialEq, Eq)]
 pub struct Shape {
     pub entry: Entry,
     pub tc: usize,
@@ -92,34 +82,13 @@ pub struct Shape {
     pub wire: usize,
 }
 
-// What unread octets name by their end: a refusal's number, or a frame's row.
-#[derive(Clone, Copy)]
-pub enum Ending {
-    Refused(u8),
-    Names(Row),
-}
-
-// What the walk's step comes to: a refusal's number, or the frame that it goes over.
-#[derive(Clone, Copy)]
-enum Step {
-    Refused(u8),
-    Over(Shape),
-}
-
 // What a payload holds: frames, octets of their bodies, the rate of its coder frames (0 where there are none), ticks.
-#[derive(Clone, Copy)]
+#[derive(Clone, Copy, Debug, PartialEq, Eq)]
 pub struct Summary {
     pub frames: usize,
     pub octets: usize,
     pub rate: u32,
     pub ticks: u32,
-}
-
-// An empty payload is whole and holds no frames; a refused one is the other case.
-#[derive(Clone, Copy)]
-pub enum Walked {
-    Whole(Summary),
-    Refused(Refusal),
 }
 
 // ---- the table
@@ -170,44 +139,41 @@ pub fn entry_of(kind: Kind) -> Entry
     }
 }
 
-// The kind of a number in a row.
-pub fn kind_of(number: u16) -> Known
-    ensures { KindKnown number result }
-{
-    match number {
-        1 => Known::Is(Kind::Bps2400),
-        2 => Known::Is(Kind::Bps1200),
-        3 => Known::Is(Kind::Bps600),
-        4 => Known::Is(Kind::ComfortNoise),
-        5 => Known::Is(Kind::Tsvcis),
-        6 => Known::Is(Kind::TsvcisLong),
-        _ => Known::Unknown,
+// The kind of a number in a row; 12 where it is none.
+impl TryFrom<u16> for Kind {
+    type Error = Reason;
+
+    ghost try_from_gives = { KindKnown };
+
+    fn try_from(number: u16) -> Result<Kind, Reason> {
+        match number {
+            1 => Ok(Kind::Bps2400),
+            2 => Ok(Kind::Bps1200),
+            3 => Ok(Kind::Bps600),
+            4 => Ok(Kind::ComfortNoise),
+            5 => Ok(Kind::Tsvcis),
+            6 => Ok(Kind::TsvcisLong),
+            _ => Err(Reason::Unknown),
+        }
     }
 }
 
 // ---- sessions
 
-// The framing of a session.
-pub fn framing_of(session: Session) -> KnownFraming
-    ensures { FramingKnown session result }
-{
-    match session {
-        Session::NotAgreed => KnownFraming::Is(Framing::Unframed),
-        Session::Agreed(rate) => framing_at(rate),
-    }
-}
+// The framing of a session, if it is a legal one; else 12 at 0.
+impl TryFrom<Session> for Framing {
+    type Error = Refusal;
 
-// The framing that is agreed with a rate.
-fn framing_at(rate: u32) -> KnownFraming
-    ensures { FramingKnown (Session.Agreed rate) result }
-{
-    if rate == 2400 {
-        return KnownFraming::Is(Framing::Framed2400);
+    ghost try_from_gives = { FramingKnown };
+
+    fn try_from(session: Session) -> Result<Framing, Refusal> {
+        match session {
+            Session::NotAgreed => Ok(Framing::Unframed),
+            Session::Agreed(2400) => Ok(Framing::Framed2400),
+            Session::Agreed(600) => Ok(Framing::Framed600),
+            Session::Agreed(_) => Err(Reason::Unknown.at(0)),
+        }
     }
-    if rate == 600 {
-        return KnownFraming::Is(Framing::Framed600);
-    }
-    KnownFraming::Unknown
 }
 
 // The rate agreed; 0 where framing is not.
@@ -230,16 +196,10 @@ fn entry_in(framing: Framing, entry: Entry) -> Entry
         return entry;
     }
     if entry.code + entry.top < 128 {
-        let counting = entry.counting;
         return Entry {
-            number: entry.number,
-            octets: entry.octets,
             code: 0,
             top: 127,
-            rate: entry.rate,
-            least: entry.least,
-            most: entry.most,
-            counting,
+            ..entry
         };
     }
     entry
@@ -247,28 +207,16 @@ fn entry_in(framing: Framing, entry: Entry) -> Entry
 
 // ---- a frame's numbers
 
-// The octets of a count of `tc`.
+// The octets of a count of `tc`: one that is short for 15 to 77, else two.
+#[tactic(auto, unfolding(crate::specs::Frame::count_in))]
 fn count_octets(counting: Counting, tc: usize) -> usize
     ensures { result ≡ length (count_in counting tc) }
 {
-    match counting {
-        Counting::Uncounted => 0,
-        Counting::ShortOrLong => short_or_long(tc),
-        Counting::Long => 2,
+    match (counting, tc) {
+        (Counting::Uncounted, _) => 0,
+        (Counting::ShortOrLong, 15..=77) => 1,
+        _ => 2,
     }
-}
-
-// One octet for 15 to 77, else two.
-fn short_or_long(tc: usize) -> usize
-    ensures { result ≡ length (count_in ShortOrLong tc) }
-{
-    if tc < 15 {
-        return 2;
-    }
-    if 77 < tc {
-        return 2;
-    }
-    1
 }
 
 // The numbers of a frame of this row.
@@ -276,7 +224,7 @@ pub fn shape_of(framing: Framing, row: Row) -> Shape
     ensures { result ≡ shape_of framing row }
 {
     let kind = row.kind;
-    let tc = row.tc as usize;
+    let tc = usize::from(row.tc);
     let entry = entry_in(framing, entry_of(kind));
     let counting = entry.counting;
     let count = count_octets(counting, tc);
@@ -291,19 +239,16 @@ pub fn shape_of(framing: Framing, row: Row) -> Shape
 }
 
 // The ticks of a coder frame at a rate; 0 at any other number.
+#[tactic(auto, unfolding(crate::specs::Frame::ticks_of_rate))]
 pub fn ticks_of_rate(rate: u32) -> u32
     ensures { result ≡ ticks_of_rate rate }
 {
-    if rate == 2400 {
-        return 180;
+    match rate {
+        2400 => 180,
+        1200 => 540,
+        600 => 720,
+        _ => 0,
     }
-    if rate == 1200 {
-        return 540;
-    }
-    if rate == 600 {
-        return 720;
-    }
-    0
 }
 
 // ---- the frame that octets end in
@@ -323,158 +268,114 @@ fn low_kind(framing: Framing, x: u8) -> Kind
 fn unframed_kind(x: u8) -> Kind
     ensures { result ≡ low_kind Unframed x }
 {
-    if x < 64 {
-        return Kind::Bps2400;
-    }
-    Kind::Bps600
+    if x < 64 { Kind::Bps2400 } else { Kind::Bps600 }
 }
 
 // What a last octet below 255 names.
-fn last_octet(framing: Framing, x: u8) -> Ending
+#[tactic(auto, unfolding(crate::specs::Walk::named))]
+fn last_octet(framing: Framing, x: u8) -> Result<Row, Reason>
     requires { x < 255 }
     ensures { result ≡ named framing x }
 {
-    if x < 128 {
-        let kind = low_kind(framing, x);
-        return Ending::Names(Row { kind, tc: 0 });
-    }
-    if x < 130 {
-        return Ending::Names(Row {
-            kind: Kind::Bps1200,
-            tc: 0,
-        });
-    }
-    if x < 160 {
-        return Ending::Refused(refusal::RESERVED_BITS);
-    }
-    if x < 192 {
-        return Ending::Names(Row {
-            kind: Kind::ComfortNoise,
-            tc: 0,
-        });
-    }
-    let tc = (x as u16) - 177;
-    Ending::Names(Row {
-        kind: Kind::Tsvcis,
-        tc,
-    })
+    let (kind, tc) = match x {
+        0..=127 => (low_kind(framing, x), 0),
+        128..=129 => (Kind::Bps1200, 0),
+        130..=159 => return Err(Reason::ReservedBits),
+        160..=191 => (Kind::ComfortNoise, 0),
+        192.. => (Kind::Tsvcis, u16::from(x) - 177),
+    };
+    Ok(Row { kind, tc })
 }
 
 // What a long count of `tc` names.
-fn long_count(tc: u8) -> Ending
+#[tactic(auto, unfolding(crate::specs::Walk::counted))]
+fn long_count(tc: u8) -> Result<Row, Reason>
     ensures { result ≡ counted tc }
 {
-    if tc == 0 {
-        return Ending::Refused(refusal::LONG_COUNT_ZERO);
-    }
-    if tc < 15 {
-        return Ending::Names(Row {
-            kind: Kind::Tsvcis,
-            tc: tc as u16,
-        });
-    }
-    if tc < 78 {
-        return Ending::Names(Row {
-            kind: Kind::TsvcisLong,
-            tc: tc as u16,
-        });
-    }
-    Ending::Names(Row {
-        kind: Kind::Tsvcis,
-        tc: tc as u16,
+    let kind = match tc {
+        0 => return Err(Reason::LongCountZero),
+        15..=77 => Kind::TsvcisLong,
+        _ => Kind::Tsvcis,
+    };
+    Ok(Row {
+        kind,
+        tc: u16::from(tc),
     })
 }
 
 // The frame that unread octets name by their end, whole or not.
-pub fn identify(framing: Framing, unread: &[u8]) -> Ending
+pub fn identify(framing: Framing, unread: &[u8]) -> Result<Row, Reason>
     ensures { Identified framing unread.now result }
 {
-    let n = unread.len();
-    if n == 0 {
-        return Ending::Refused(refusal::FRAME_CUT);
+    match unread {
+        [] => Err(Reason::FrameCut),
+        [.., x] if *x < 255 => last_octet(framing, *x),
+        [.., tc, _] => long_count(*tc),
+        [_] => Err(Reason::FrameCut),
     }
-    let x = unread[n - 1];
-    if x < 255 {
-        return last_octet(framing, x);
-    }
-    if n == 1 {
-        return Ending::Refused(refusal::FRAME_CUT);
-    }
-    long_count(unread[n - 2])
 }
 
 // ---- the walk
 
 // The step over the frame of this row at the end of the unread octets: if it is whole, if its base ends as one of its kind does, and if
 // it may stand before the frames already read, of which there are so many, in a sequence of this rate (0: of any).
-fn admit(framing: Framing, unread: &[u8], row: Row, frames: usize, rate: u32) -> Step
-    ensures { result ≡ step_of framing (beside frames rate (whole framing unread.now (length unread.now) (Ending.Names row))) }
+fn admit(
+    framing: Framing,
+    unread: &[u8],
+    row: Row,
+    frames: usize,
+    rate: u32,
+) -> Result<Shape, Reason>
+    ensures { result ≡ step_of framing (beside frames rate (whole framing unread.now (length unread.now) (Ok row))) }
 {
     let shape = shape_of(framing, row);
+    let entry = shape.entry;
     let n = unread.len();
-    let wire = shape.wire;
-    if n < wire {
-        return Step::Refused(refusal::FRAME_CUT);
+    if n < shape.wire {
+        return Err(Reason::FrameCut);
     }
-    let end = n - wire + (shape.entry.octets - 1);
-    if shape.entry.code + shape.entry.top < unread[end] {
-        return Step::Refused(refusal::AUGMENTATION_NOT_2400);
+    let end = n - shape.wire + (entry.octets - 1);
+    if entry.code + entry.top < unread[end] {
+        return Err(Reason::AugmentationNot2400);
     }
-    if shape.entry.rate == 0 {
-        if frames == 0 {
-            return Step::Over(shape);
-        }
-        return Step::Refused(refusal::COMFORT_NOISE_NOT_LAST);
+    if entry.rate == 0 && 0 < frames {
+        return Err(Reason::ComfortNoiseNotLast);
     }
-    if shape.entry.rate == rate {
-        return Step::Over(shape);
+    if entry.rate != 0 && entry.rate != rate && rate != 0 {
+        return Err(Reason::RatesMixed);
     }
-    if rate == 0 {
-        return Step::Over(shape);
-    }
-    Step::Refused(refusal::RATES_MIXED)
+    Ok(shape)
 }
 
-// The step over the frame that the unread octets end in. The commonest ends, which one octet names, go ahead by themselves.
-fn next_frame(framing: Framing, unread: &[u8], frames: usize, rate: u32) -> Step
+// The step over the frame that the unread octets end in. The commonest ends, which one octet names, go ahead by themselves: without
+// these arms the walk takes more than twice as long.
+fn next_frame(framing: Framing, unread: &[u8], frames: usize, rate: u32) -> Result<Shape, Reason>
     ensures { result ≡ step_of framing (beside frames rate (last_frame framing unread.now (length unread.now))) }
 {
-    let n = unread.len();
-    if 0 < n {
-        let x = unread[n - 1];
-        if x < 128 {
+    match *unread {
+        [.., x @ 0..=127] => {
             let kind = low_kind(framing, x);
-            let row = Row { kind, tc: 0 };
-            return admit(framing, unread, row, frames, rate);
+            admit(framing, unread, Row { kind, tc: 0 }, frames, rate)
         }
-        if 159 < x {
-            if x < 192 {
-                let row = Row {
-                    kind: Kind::ComfortNoise,
-                    tc: 0,
-                };
-                return admit(framing, unread, row, frames, rate);
-            }
-            if x < 255 {
-                let short = (x as u16) - 177;
-                let row = Row {
-                    kind: Kind::Tsvcis,
-                    tc: short,
-                };
-                return admit(framing, unread, row, frames, rate);
-            }
+        [.., 160..=191] => {
+            let kind = Kind::ComfortNoise;
+            admit(framing, unread, Row { kind, tc: 0 }, frames, rate)
         }
-    }
-    let ending = identify(framing, unread);
-    match ending {
-        Ending::Refused(number) => Step::Refused(number),
-        Ending::Names(row) => admit(framing, unread, row, frames, rate),
+        [.., x @ 192..=254] => {
+            let kind = Kind::Tsvcis;
+            let tc = u16::from(x) - 177;
+            admit(framing, unread, Row { kind, tc }, frames, rate)
+        }
+        _ => {
+            let row = identify(framing, unread)?;
+            admit(framing, unread, row, frames, rate)
+        }
     }
 }
 
 // The walk over a payload that is not too long, from its end to its front. Wanted of a coder frame is the rate of those already read, or
 // else the rate agreed.
-fn walk_back(framing: Framing, payload: &[u8]) -> Walked
+fn walk_back(framing: Framing, payload: &[u8]) -> Result<Summary, Refusal>
     requires { length payload.now ≤ 1400 }
     ensures { result ≡ walked_of (read_of framing payload.now) }
 {
@@ -485,27 +386,20 @@ fn walk_back(framing: Framing, payload: &[u8]) -> Walked
     let mut rate: u32 = 0;
     let mut wanted = agreed_rate(framing);
     while 0 < unread {
-        let step = next_frame(framing, &payload[..unread], frames, wanted);
-        match step {
-            Step::Refused(number) => {
-                return Walked::Refused(Refusal {
-                    number,
-                    place: unread,
-                });
-            }
-            Step::Over(shape) => {
-                unread -= shape.wire;
-                frames += 1;
-                octets += shape.body;
-                if shape.entry.rate != 0 {
-                    coders += 1;
-                    rate = shape.entry.rate;
-                    wanted = shape.entry.rate;
-                }
-            }
+        let shape = match next_frame(framing, &payload[..unread], frames, wanted) {
+            Ok(shape) => shape,
+            Err(reason) => return Err(reason.at(unread)),
+        };
+        unread -= shape.wire;
+        frames += 1;
+        octets += shape.body;
+        if shape.entry.rate != 0 {
+            coders += 1;
+            rate = shape.entry.rate;
+            wanted = rate;
         }
     }
-    Walked::Whole(Summary {
+    Ok(Summary {
         frames,
         octets,
         rate,
@@ -513,15 +407,12 @@ fn walk_back(framing: Framing, payload: &[u8]) -> Walked
     })
 }
 
-// The walk: what a payload holds, or its refusal.
-pub fn walk(framing: Framing, payload: &[u8]) -> Walked
+// The walk: what a payload holds, or its refusal. An empty payload is whole and holds no frames.
+pub fn walk(framing: Framing, payload: &[u8]) -> Result<Summary, Refusal>
     ensures { Walks framing payload.now result }
 {
     if MOST_OCTETS < payload.len() {
-        return Walked::Refused(Refusal {
-            number: refusal::TOO_LONG,
-            place: MOST_OCTETS,
-        });
+        return Err(Reason::TooLong.at(MOST_OCTETS));
     }
     walk_back(framing, payload)
 }

@@ -2,8 +2,8 @@ pub mod Outcomes
 pub mod WireRows
 pub mod RowLaws
 pub mod RowSequences
+pub mod Pairs
 pub mod RowLoop
-pub mod Stores
 pub mod Shapes
 pub mod Frames
 pub mod FrameLoops

@@ -3,25 +3,23 @@ use mathlib.Core.Path.{◌≡◌, refl, sym, ap, ◌∙◌}
 use mathlib.Core.Logic.{◌⊎◌, inl, inr}
 use mathlib.Core.Bool.{Bool, true, false, ◌||◌}
 use mathlib.Core.List.{List, [], ◌∷◌, ◌++◌}
-use mathlib.Core.Option.{Option, none, some}
 use Prim.Native.Nat.{ℕ, ◌≤◌, ◌<◌}
 use native.Mathlib.Omega.{arith}
 use native.Mathlib.Decide.{ℕ_discrete}
 use lib.ListN.{length}
 use borrow.Author.Tests.{lt-ltb, le-ltb, eq-eqb, ne_eqb}
+use Rattle.std.specs.Prelude.{Option, Some, None, Result, Ok, Err, ok_or}
+use Rattle.refusal.specs.declared.Reason.{Reason}
+use Rattle.refusal.specs.declared.Reason.TheVariants.{ComfortNoiseNotLast, RatesMixed, Unknown, WrongTc}
 use Rattle.wire.specs.Frame.{agreed_rate, AgreedOn, LegalRow, table, row, rate}
-use Rattle.wire.specs.Answers.{known}
+use Rattle.wire.specs.Answers.{shape_of}
 use Rattle.wire.specs.declared.Framing.{Framing}
 use Rattle.wire.specs.declared.Kind.{Kind}
-use Rattle.wire.specs.declared.Known.{Known}
-use Rattle.wire.specs.declared.Known.TheVariants.{Unknown, Is}
-use Rattle.wire.specs.declared.Entry.{Entry}
 use Rattle.wire.specs.declared.Row.{Row}
+use Rattle.wire.specs.declared.Shape.{Shape}
 use Rattle.octets.proofs.Order.{below_or}
 use Rattle.writer.specs.Rows.{Outcome, passed, refused, is_wrong_tc, differs, disagrees, is_mixed, row_of}
-use Rattle.writer.specs.Stages.{checked_of, AllOf, OneRate, named_row}
-use Rattle.writer.specs.declared.Checked.{Checked}
-use Rattle.writer.specs.declared.Checked.TheVariants.{Refused, Passes}
+use Rattle.writer.specs.Stages.{shape_checked, AllOf, OneRate, named_row}
 
 -- ---- rates
 
@@ -35,7 +33,7 @@ same_all r (x ∷ xs) e = go (ℕ_discrete (rate x) r) (same_all r xs)
   where
     go : Dec (rate x ≡ r) → (differs r xs ≡ false → AllOf r xs) → AllOf r (x ∷ xs)
     go (yes q) rest = (q, rest (simp (eq-eqb (rate x) r q) at e))
-    go (no q) rest = absurd (let d : true ≡ false = simp (ne_eqb (rate x) r q) at e in let z : ◌≡◌ {A = ℕ} 0 1 = cc in omega arith)
+    go (no q) rest = absurd (let d : true ≡ false = simp (ne_eqb (rate x) r q) at e in cc)
 
 pub all_snoc : (r : ℕ) (xs : List Row) (x : Row) → AllOf r xs → rate x ≡ r → AllOf r (xs ++ (x ∷ []))
 all_snoc r [] x a e = (e, tt)
@@ -63,7 +61,7 @@ module _ (fr : Framing) (r : ℕ) where
       go : Dec (agreed_rate fr ≡ 0) → Dec (agreed_rate fr ≡ r) → AgreedOn fr r
       go (yes z) q = inl z
       go (no z) (yes q) = inr q
-      go (no z) (no q) = absurd (let d : true ≡ false = sym (other z q) ∙ e in let y : ◌≡◌ {A = ℕ} 0 1 = cc in omega arith)
+      go (no z) (no q) = absurd (let d : true ≡ false = sym (other z q) ∙ e in cc)
 
   module _ (xs : List Row) where
     pub unmixed : AgreedOn fr r → AllOf r xs → is_mixed fr r xs ≡ false
@@ -73,7 +71,7 @@ module _ (fr : Framing) (r : ℕ) where
     of_one e = go (disagrees fr r) refl e
       where
         go : (b : Bool) → disagrees fr r ≡ b → (b || differs r xs) ≡ false → AgreedOn fr r × AllOf r xs
-        go true q d = absurd (let y : ◌≡◌ {A = ℕ} 0 1 = cc in omega arith)
+        go true q d = absurd cc
         go false q d = (agreed_on q, same_all r xs d)
 
 module _ (fr : Framing) (s : ℕ) (xs : List Row) (one : OneRate fr s xs) (r : ℕ) where
@@ -101,11 +99,11 @@ module _ (fr : Framing) (s : ℕ) (xs : List Row) (one : OneRate fr s xs) (r : �
 -- ---- the tests, one by one
 
 module _ (fr : Framing) (earlier : List Row) (later : ℕ) (k : Kind) (t : ℕ) where
-  pub row_low : t < (table k).least → row_of fr earlier later (some k) t ≡ refused 13 (length earlier)
+  pub row_low : t < (table k).least → row_of fr earlier later (Some k) t ≡ refused WrongTc (length earlier)
   unfolding row_of
   row_low h = simp (lt-ltb t (table k).least h)
 
-  pub row_high : (table k).least ≤ t → (table k).most < t → row_of fr earlier later (some k) t ≡ refused 13 (length earlier)
+  pub row_high : (table k).least ≤ t → (table k).most < t → row_of fr earlier later (Some k) t ≡ refused WrongTc (length earlier)
   unfolding row_of
   row_high l h = simp (le-ltb t (table k).least l, lt-ltb (table k).most t h)
 
@@ -113,20 +111,20 @@ module _ (fr : Framing) (earlier : List Row) (later : ℕ) (k : Kind) (t : ℕ) 
     right : is_wrong_tc k t ≡ false
     right = simp (le-ltb t (table k).least legal.least, le-ltb (table k).most t legal.most)
 
-    pub noise_followed : (table k).rate ≡ 0 → 0 < later → row_of fr earlier later (some k) t ≡ refused 6 (length earlier)
+    pub noise_followed : (table k).rate ≡ 0 → 0 < later → row_of fr earlier later (Some k) t ≡ refused ComfortNoiseNotLast (length earlier)
     unfolding row_of
     noise_followed z h = simp (right, eq-eqb (table k).rate 0 z, lt-ltb 0 later h)
 
-    pub noise_last : (table k).rate ≡ 0 → later ≤ 0 → row_of fr earlier later (some k) t ≡ passed (row k t)
+    pub noise_last : (table k).rate ≡ 0 → later ≤ 0 → row_of fr earlier later (Some k) t ≡ passed (row k t)
     unfolding row_of
     noise_last z h = simp (right, eq-eqb (table k).rate 0 z, le-ltb 0 later h)
 
     module _ (z : (table k).rate ≡ 0 → ⊥) where
-      pub coder_same : is_mixed fr (table k).rate earlier ≡ false → row_of fr earlier later (some k) t ≡ passed (row k t)
+      pub coder_same : is_mixed fr (table k).rate earlier ≡ false → row_of fr earlier later (Some k) t ≡ passed (row k t)
       unfolding row_of
       coder_same e = simp (right, ne_eqb (table k).rate 0 z, e)
 
-      pub coder_mixed : is_mixed fr (table k).rate earlier ≡ true → row_of fr earlier later (some k) t ≡ refused 8 (length earlier)
+      pub coder_mixed : is_mixed fr (table k).rate earlier ≡ true → row_of fr earlier later (Some k) t ≡ refused RatesMixed (length earlier)
       unfolding row_of
       coder_mixed e = simp (right, ne_eqb (table k).rate 0 z, e)
 
@@ -138,7 +136,7 @@ Standing fr earlier later x = ((rate x ≡ 0) × (later ≤ 0)) ⊎ ((rate x ≡
 
 -- the row x was made of this kind and TC, and may stand there
 pub record Fit (fr : Framing) (earlier : List Row) (later : ℕ) (k : Option Kind) (t : ℕ) (x : Row) : Type 0 where
-  pub kind : k ≡ some x.kind
+  pub kind : k ≡ Some x.kind
   pub tc : t ≡ x.tc
   pub legal : LegalRow x
   pub stands : Standing fr earlier later x
@@ -146,93 +144,98 @@ pub record Fit (fr : Framing) (earlier : List Row) (later : ℕ) (k : Option Kin
 -- what a check of a row says; a refusal's place is the row
 abbrev pub Says : Framing → List Row → ℕ → Option Kind → ℕ → Outcome Row → Type 0
 Says fr earlier later k t (passed x) = Fit fr earlier later k t x
-Says fr earlier later k t (refused n place) = (1 ≤ n) × (place ≡ length earlier)
+Says fr earlier later k t (refused reason place) = place ≡ length earlier
 
 pub says : (fr : Framing) (earlier : List Row) (later : ℕ) (k : Option Kind) (t : ℕ) → Says fr earlier later k t (row_of fr earlier later k t)
 unfolding row_of
-says fr earlier later none t = (omega arith, refl)
-says fr earlier later (some k) t = low (below_or t (table k).least) (below_or (table k).most t)
+says fr earlier later None t = refl
+says fr earlier later (Some k) t = low (below_or t (table k).least) (below_or (table k).most t)
   where
-    mixed : LegalRow (row k t) → ((table k).rate ≡ 0 → ⊥) → (b : Bool) → is_mixed fr (table k).rate earlier ≡ b → Says fr earlier later (some k) t (row_of fr earlier later (some k) t)
-    mixed l z true e = rw (coder_mixed fr earlier later k t l z e) (omega arith, refl)
+    mixed : LegalRow (row k t) → ((table k).rate ≡ 0 → ⊥) → (b : Bool) → is_mixed fr (table k).rate earlier ≡ b → Says fr earlier later (Some k) t (row_of fr earlier later (Some k) t)
+    mixed l z true e = rw (coder_mixed fr earlier later k t l z e) refl
     mixed l z false e = rw (coder_same fr earlier later k t l z e) (record { kind = refl; tc = refl; legal = l; stands = inr (let w = of_one fr (table k).rate earlier e in (z, w.0, w.1)) })
 
-    stands : LegalRow (row k t) → Dec ((table k).rate ≡ 0) → (0 < later) ⊎ (later ≤ 0) → Says fr earlier later (some k) t (row_of fr earlier later (some k) t)
-    stands l (yes z) (inl h) = rw (noise_followed fr earlier later k t l z h) (omega arith, refl)
+    stands : LegalRow (row k t) → Dec ((table k).rate ≡ 0) → (0 < later) ⊎ (later ≤ 0) → Says fr earlier later (Some k) t (row_of fr earlier later (Some k) t)
+    stands l (yes z) (inl h) = rw (noise_followed fr earlier later k t l z h) refl
     stands l (yes z) (inr h) = rw (noise_last fr earlier later k t l z h) (record { kind = refl; tc = refl; legal = l; stands = inl (z, h) })
     stands l (no z) h = mixed l z (is_mixed fr (table k).rate earlier) refl
 
-    low : (t < (table k).least) ⊎ ((table k).least ≤ t) → ((table k).most < t) ⊎ (t ≤ (table k).most) → Says fr earlier later (some k) t (row_of fr earlier later (some k) t)
-    low (inl h) m = rw (row_low fr earlier later k t h) (omega arith, refl)
-    low (inr h) (inl m) = rw (row_high fr earlier later k t h m) (omega arith, refl)
+    low : (t < (table k).least) ⊎ ((table k).least ≤ t) → ((table k).most < t) ⊎ (t ≤ (table k).most) → Says fr earlier later (Some k) t (row_of fr earlier later (Some k) t)
+    low (inl h) m = rw (row_low fr earlier later k t h) refl
+    low (inr h) (inl m) = rw (row_high fr earlier later k t h m) refl
     low (inr h) (inr m) = stands (record { least = h; most = m }) (ℕ_discrete (table k).rate 0) (below_or 0 later)
 
 -- a legal row that may stand there passes
-pub fit_passes : (fr : Framing) (earlier : List Row) (later : ℕ) (x : Row) → LegalRow x → Standing fr earlier later x → row_of fr earlier later (some x.kind) x.tc ≡ passed x
+pub fit_passes : (fr : Framing) (earlier : List Row) (later : ℕ) (x : Row) → LegalRow x → Standing fr earlier later x → row_of fr earlier later (Some x.kind) x.tc ≡ passed x
 fit_passes fr earlier later x l (inl w) = noise_last fr earlier later x.kind x.tc l w.0 w.1
 fit_passes fr earlier later x l (inr w) = coder_same fr earlier later x.kind x.tc l w.0 (unmixed fr (rate x) earlier w.1 w.2)
 
--- ---- as the code asks: by the kind's numbers and the rate of the earlier rows
+-- ---- as the code asks: by the row's shape and the rate of the earlier rows
 
-module _ (x : Row) (later s : ℕ) {e : Entry} (is : e ≡ table x.kind) where
-  abbrev Admits : Checked → Type 0
-  Admits r = (fr : Framing) (earlier : List Row) → OneRate fr s earlier → r ≡ checked_of (row_of fr earlier later (some x.kind) x.tc)
+module _ (fr : Framing) (x : Row) (later s : ℕ) {y : Shape} (is : y ≡ shape_of fr x) where
+  abbrev Admits : Result Shape Reason → Type 0
+  Admits r = (earlier : List Row) → OneRate fr s earlier → r ≡ shape_checked fr (row_of fr earlier later (Some x.kind) x.tc)
 
-  pub too_low : x.tc < e.least → Admits (Refused 13)
-  too_low h = λ fr earlier one. ap checked_of (sym (row_low fr earlier later x.kind x.tc (rw is at h)))
+  passes : ((earlier : List Row) → OneRate fr s earlier → row_of fr earlier later (Some x.kind) x.tc ≡ passed x) → Admits (Ok y)
+  passes h earlier one = ap Ok is ∙ ap (shape_checked fr) (sym (h earlier one))
 
-  module _ (low : e.least ≤ x.tc) where
-    pub too_high : e.most < x.tc → Admits (Refused 13)
-    too_high h = λ fr earlier one. ap checked_of (sym (row_high fr earlier later x.kind x.tc (rw is at low) (rw is at h)))
+  pub refuses_tc : (y.tc < y.entry.least) ⊎ ((y.entry.least ≤ y.tc) × (y.entry.most < y.tc)) → Admits (Err WrongTc)
+  refuses_tc (inl h) earlier one = ap (shape_checked fr) (sym (row_low fr earlier later x.kind x.tc (rw is at h)))
+  refuses_tc (inr h) earlier one = ap (shape_checked fr) (sym (row_high fr earlier later x.kind x.tc (rw is at h.0) (rw is at h.1)))
 
-    module _ (high : x.tc ≤ e.most) where
-      legal : LegalRow x
-      legal = record { least = rw is at low; most = rw is at high }
+  module _ (low : y.entry.least ≤ y.tc) (high : y.tc ≤ y.entry.most) where
+    legal : LegalRow x
+    legal = record { least = rw is at low; most = rw is at high }
 
-      pub noise_not_last : e.rate ≡ 0 → 0 < later → Admits (Refused 6)
-      noise_not_last z h = λ fr earlier one. ap checked_of (sym (noise_followed fr earlier later x.kind x.tc legal (rw is at z) h))
+    pub refuses_noise : y.entry.rate ≡ 0 → 0 < later → Admits (Err ComfortNoiseNotLast)
+    refuses_noise z h earlier one = ap (shape_checked fr) (sym (noise_followed fr earlier later x.kind x.tc legal (rw is at z) h))
 
-      pub noise_ends : e.rate ≡ 0 → later ≤ 0 → Admits (Passes x)
-      noise_ends z h = λ fr earlier one. ap checked_of (sym (noise_last fr earlier later x.kind x.tc legal (rw is at z) h))
+    pub admits_noise : y.entry.rate ≡ 0 → later ≤ 0 → Admits (Ok y)
+    admits_noise z h = passes (λ earlier one. noise_last fr earlier later x.kind x.tc legal (rw is at z) h)
 
-      module _ (z : e.rate ≡ 0 → ⊥) where
-        pub first_rate : s ≡ 0 → Admits (Passes x)
-        first_rate n = λ fr earlier one. ap checked_of (sym (coder_same fr earlier later x.kind x.tc legal (rw is at z) (one_none fr s earlier one (rate x) n)))
+    module _ (z : y.entry.rate ≡ 0 → ⊥) where
+      pub refuses_rate : (s ≡ 0 → ⊥) → (y.entry.rate ≡ s → ⊥) → Admits (Err RatesMixed)
+      refuses_rate n q earlier one = ap (shape_checked fr) (sym (coder_mixed fr earlier later x.kind x.tc legal (rw is at z) (one_other fr s earlier one (rate x) n (rw is at q))))
 
-        pub same_rate : e.rate ≡ s → Admits (Passes x)
-        same_rate q = λ fr earlier one. ap checked_of (sym (coder_same fr earlier later x.kind x.tc legal (rw is at z) (one_same fr s earlier one (rate x) (rw is at q))))
-
-        pub other_rate : (s ≡ 0 → ⊥) → (e.rate ≡ s → ⊥) → Admits (Refused 8)
-        other_rate n q = λ fr earlier one. ap checked_of (sym (coder_mixed fr earlier later x.kind x.tc legal (rw is at z) (one_other fr s earlier one (rate x) n (rw is at q))))
+      -- of the rate of all earlier ones, or the first
+      pub admits_coder : ((s ≡ 0 → ⊥) × (y.entry.rate ≡ s)) ⊎ (s ≡ 0) → Admits (Ok y)
+      admits_coder (inl q) = passes (λ earlier one. coder_same fr earlier later x.kind x.tc legal (rw is at z) (one_same fr s earlier one (rate x) (rw is at q.1)))
+      admits_coder (inr n) = passes (λ earlier one. coder_same fr earlier later x.kind x.tc legal (rw is at z) (one_none fr s earlier one (rate x) n))
 
 -- ---- the row that two numbers name
 
--- the answer of `wire::kind_of`, taken further
-module _ (o : Option Kind) (t : ℕ) {f : Known} (is : f ≡ known o) where
-  pub unknown-row : f ≡ Unknown → Refused 12 ≡ named_row o t
+-- the answer of the look-up, taken further
+module _ (o : Option Kind) (t : ℕ) {f : Result Kind Reason} (is : f ≡ ok_or o Unknown) where
+  pub named-unknown : (e : Reason) → f ≡ Err e → Err e ≡ named_row o t
   unfolding named_row
-  unknown-row u = go o (sym is ∙ u)
+  named-unknown e a = go o (sym is ∙ a)
     where
-      go : (p : Option Kind) → known p ≡ Unknown → Refused 12 ≡ named_row p t
-      go none e = refl
-      go (some k) e = absurd (let z : ◌≡◌ {A = ℕ} 0 1 = cc in omega arith)
+      go : (p : Option Kind) → ok_or p Unknown ≡ Err e → Err e ≡ named_row p t
+      go None q = cc
+      go (Some k) q = absurd cc
 
-  pub known-row : (k : Kind) → f ≡ Is k → Passes (row k t) ≡ named_row o t
+  pub named-known : (k : Kind) → f ≡ Ok k → Ok (row k t) ≡ named_row o t
   unfolding named_row
-  known-row k i = go o (sym is ∙ i)
+  named-known k a = go o (sym is ∙ a)
     where
-      go : (p : Option Kind) → known p ≡ Is k → Passes (row k t) ≡ named_row p t
-      go none e = absurd (let z : ◌≡◌ {A = ℕ} 0 1 = cc in omega arith)
-      go (some j) e = let q : k ≡ j = cc in ap (λ (i : Kind). Passes (row i t)) q
+      go : (p : Option Kind) → ok_or p Unknown ≡ Ok k → Ok (row k t) ≡ named_row p t
+      go None q = absurd cc
+      go (Some j) q = let same : j ≡ k = cc in cc
 
 -- its checks
-module _ (fr : Framing) (earlier : List Row) (later : ℕ) where
-  pub named-refused : (o : Option Kind) (t n : ℕ) {f : Checked} → f ≡ named_row o t → f ≡ Refused n → Refused n ≡ checked_of (row_of fr earlier later o t)
+module _ (o : Option Kind) (t : ℕ) {f : Result Row Reason} (is : f ≡ named_row o t) (fr : Framing) (earlier : List Row) (later : ℕ) where
+  pub unnamed-refused : (e : Reason) → f ≡ Err e → Err e ≡ shape_checked fr (row_of fr earlier later o t)
   unfolding row_of named_row
-  named-refused none t n a b = cc
-  named-refused (some k) t n a b = absurd (let z : ◌≡◌ {A = ℕ} 0 1 = cc in omega arith)
+  unnamed-refused e a = go o (sym is ∙ a)
+    where
+      go : (p : Option Kind) → named_row p t ≡ Err e → Err e ≡ shape_checked fr (row_of fr earlier later p t)
+      go None q = cc
+      go (Some k) q = absurd cc
 
-  pub named_passes : (o : Option Kind) (t : ℕ) (x : Row) {f : Checked} → f ≡ named_row o t → f ≡ Passes x → checked_of (row_of fr earlier later (some x.kind) x.tc) ≡ checked_of (row_of fr earlier later o t)
+  pub named_checked : (x : Row) → f ≡ Ok x → row_of fr earlier later (Some x.kind) x.tc ≡ row_of fr earlier later o t
   unfolding named_row
-  named_passes none t x a b = absurd (let z : ◌≡◌ {A = ℕ} 0 1 = cc in omega arith)
-  named_passes (some k) t x a b = let q : x ≡ row k t = cc in ap (λ (y : Row). checked_of (row_of fr earlier later (some y.kind) y.tc)) q
+  named_checked x a = go o (sym is ∙ a)
+    where
+      go : (p : Option Kind) → named_row p t ≡ Ok x → row_of fr earlier later (Some x.kind) x.tc ≡ row_of fr earlier later p t
+      go None q = absurd cc
+      go (Some k) q = let same : x ≡ row k t = cc in ap (λ (y : Row). row_of fr earlier later (Some y.kind) y.tc) same

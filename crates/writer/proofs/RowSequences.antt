@@ -2,13 +2,15 @@
 use mathlib.Core.Path.{◌≡◌, refl, sym, ap, ◌∙◌, subst}
 use mathlib.Core.Logic.{◌⊎◌, inl, inr}
 use mathlib.Core.List.{List, [], ◌∷◌, ◌++◌, append_assoc, append-nil}
-use mathlib.Core.Option.{Option}
 use Prim.Native.Nat.{ℕ, ◌-◌, ◌*◌, ◌/◌, ◌%◌, ◌≤◌, ◌<◌}
 use native.Mathlib.Nat.{div-add-mod}
 use native.Mathlib.Omega.{arith}
 use lib.Dec.{ltb, eqb}
 use lib.ListN.{length}
 use borrow.Author.Tests.{lt-ltb, le-ltb, ltb-false, eq-eqb, ne_eqb, eqb-false}
+use Rattle.std.specs.Prelude.{Option}
+use Rattle.refusal.specs.declared.Reason.TheVariants.{TooLong, OddRows}
+use Rattle.std.proofs.lemmas.List.{nil_from_length}
 use Rattle.wire.specs.Frame.{AgreedOn, agreed_rate, rate, kind_of, numbers_of, wire_octets, sum_of, OfRate, LegalRows}
 use Rattle.wire.specs.declared.Framing.{Framing}
 use Rattle.wire.specs.declared.Kind.{Kind}
@@ -17,8 +19,9 @@ use Rattle.wire.proofs.TableLaws.{kind_of_lem}
 use Rattle.wire.proofs.Rates.{either}
 use Rattle.writer.specs.Rows.{Outcome, passed, refused, and_then, row_of, row_by_row, total, check_of}
 use Rattle.writer.specs.Stages.{AllOf}
-use Rattle.writer.proofs.Outcomes.{not_passed, refuse_passed, then_passed, Numbered, refuse_numbered, then_numbered}
-use Rattle.writer.proofs.WireRows.{number_of, noise_stands, coder_stands, length_numbers, rows_most}
+use Rattle.writer.proofs.Outcomes.{not_passed, refuse_passed, then_passed}
+use Rattle.wire.proofs.Rates.{noise_stands, coder_stands}
+use Rattle.writer.proofs.WireRows.{number_of, length_numbers, rows_most}
 use Rattle.writer.proofs.RowLaws.{all_snoc, all_front, Standing, Fit, Says, says, fit_passes}
 
 -- ---- what passes
@@ -33,10 +36,6 @@ record Held (fr : Framing) (earlier : List Row) (ns : List ℕ) (xs : List Row) 
   before : AllOf common earlier
   rated : OfRate common rest
 
-empty : (ns : List ℕ) → length ns ≤ 0 → ns ≡ []
-empty [] h = refl
-empty (n ∷ ns) h = absurd (omega arith)
-
 module _ (fr : Framing) (earlier : List Row) (n t : ℕ) (ns : List ℕ) (x : Row) (fit : Fit fr earlier (length ns) (kind_of n) t x) (xs : List Row) where
   named : (rest : List Row) → ns ≡ numbers_of rest → n ∷ t ∷ ns ≡ numbers_of (x ∷ rest)
   named rest e = let k = number_of n x.kind fit.kind in let u = fit.tc in cc
@@ -44,7 +43,7 @@ module _ (fr : Framing) (earlier : List Row) (n t : ℕ) (ns : List ℕ) (x : Ro
   -- comfort noise, which ends the rows
   held_noise : (s : ℕ) → AgreedOn fr s → AllOf s earlier → rate x ≡ 0 → length ns ≤ 0 → row_by_row fr (earlier ++ (x ∷ [])) ns ≡ passed xs → Held fr earlier (n ∷ t ∷ ns) xs
   held_noise s g a z l e =
-      let nil : ns ≡ [] = empty ns l in
+      let nil : ns ≡ [] = nil_from_length ns (omega arith) in
       let d : passed (earlier ++ (x ∷ [])) ≡ passed xs = rw nil at e in
       let q : earlier ++ (x ∷ []) ≡ xs = cc in
       record { rest = x ∷ []; is = sym q; numbers = named [] nil; common = s; agreed = g; before = a; rated = (fit.legal, noise_stands s (rate x) [] z refl, tt) }
@@ -77,7 +76,7 @@ held fr (n ∷ t ∷ ns) m l earlier s g a xs e = go (row_of fr earlier (length 
 
     go : (o : Outcome Row) → Says fr earlier (length ns) (kind_of n) t o → and_then o (λ x. row_by_row fr (earlier ++ (x ∷ [])) ns) ≡ passed xs
         → ((p : List Row) (r : ℕ) → AgreedOn fr r → AllOf r p → (ys : List Row) → row_by_row fr p ns ≡ passed ys → Held fr p ns ys) → Held fr earlier (n ∷ t ∷ ns) xs
-    go (refused m place) w d ih = not_passed d
+    go (refused reason place) w d ih = not_passed d
     go (passed x) fit d ih = stood x fit d ih fit.stands
 
 -- ---- the rows of a legal sequence pass
@@ -105,11 +104,11 @@ pass_all fr (x ∷ rest) r g o earlier a = go (either r (rate x) rest o.1) (pass
 -- ---- the whole list
 
 module _ (fr : Framing) (ns : List ℕ) where
-  pub check_odd : length ns % 2 ≡ 1 → check_of fr ns ≡ refused 11 (length ns)
+  pub check_odd : length ns % 2 ≡ 1 → check_of fr ns ≡ refused OddRows (length ns)
   unfolding check_of
   check_odd e = simp (eq-eqb (length ns % 2) 1 e)
 
-  pub check_many : (length ns % 2 ≡ 1 → ⊥) → 200 < length ns / 2 → check_of fr ns ≡ refused 1 1400
+  pub check_many : (length ns % 2 ≡ 1 → ⊥) → 200 < length ns / 2 → check_of fr ns ≡ refused TooLong 1400
   unfolding check_of
   check_many e h = simp (ne_eqb (length ns % 2) 1 e, lt-ltb 200 (length ns / 2) h)
 
@@ -121,10 +120,10 @@ module _ (fr : Framing) (ns : List ℕ) where
   pub checked_legal : (xs : List Row) → check_of fr ns ≡ passed xs → (ns ≡ numbers_of xs) × LegalRows fr xs
   unfolding check_of
   checked_legal xs e =
-      let odd = refuse_passed (eqb (length ns % 2) 1) 11 (length ns) _ xs e in
-      let many = refuse_passed (ltb 200 (length ns / 2)) 1 1400 _ xs odd.1 in
+      let odd = refuse_passed (eqb (length ns % 2) 1) OddRows (length ns) _ xs e in
+      let many = refuse_passed (ltb 200 (length ns / 2)) TooLong 1400 _ xs odd.1 in
       let each = then_passed (row_by_row fr [] ns) total xs many.1 in
-      let sum = refuse_passed (ltb 1400 (sum_of wire_octets each.0)) 1 1400 (passed each.0) xs each.2 in
+      let sum = refuse_passed (ltb 1400 (sum_of wire_octets each.0)) TooLong 1400 (passed each.0) xs each.2 in
       let same : each.0 ≡ xs = (let p = sum.1 in cc) in
       let even = eqb-false (length ns % 2) 1 odd.0 in
       let h = held fr ns (length ns / 2) (omega (arith, div-add-mod (length ns) 2)) [] (agreed_rate fr) (inr refl) tt each.0 each.1 in
@@ -141,21 +140,3 @@ check_legal fr xs l =
     check_each fr (numbers_of xs) (λ e. omega arith) (omega (arith, rows_most fr xs l))
     ∙ ap (λ (o : Outcome (List Row)). and_then o total) (pass_all fr xs l.common l.agreed l.rated [] tt)
     ∙ simp (le-ltb 1400 (sum_of wire_octets xs) l.total)
-
--- ---- a refusal has a number
-
-rows_numbered : (fr : Framing) (ns : List ℕ) (earlier : List Row) → Numbered (row_by_row fr earlier ns)
-rows_numbered fr [] earlier = tt
-rows_numbered fr (n ∷ []) earlier = tt
-rows_numbered fr (n ∷ t ∷ ns) earlier = then_numbered (row_of fr earlier (length ns) (kind_of n) t) _ (go (row_of fr earlier (length ns) (kind_of n) t) (says fr earlier (length ns) (kind_of n) t)) (λ x. rows_numbered fr ns (earlier ++ (x ∷ [])))
-  where
-    go : (o : Outcome Row) → Says fr earlier (length ns) (kind_of n) t o → Numbered o
-    go (passed x) w = tt
-    go (refused m place) w = w.0
-
-pub check_numbered : (fr : Framing) (ns : List ℕ) → Numbered (check_of fr ns)
-unfolding check_of
-check_numbered fr ns =
-    refuse_numbered (eqb (length ns % 2) 1) 11 (length ns) _ (omega arith)
-    (refuse_numbered (ltb 200 (length ns / 2)) 1 1400 _ (omega arith)
-    (then_numbered (row_by_row fr [] ns) total (rows_numbered fr ns []) (λ xs. refuse_numbered (ltb 1400 (sum_of wire_octets xs)) 1 1400 (passed xs) (omega arith) tt)))

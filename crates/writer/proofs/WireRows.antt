@@ -3,13 +3,13 @@ use mathlib.Core.Path.{◌≡◌, refl, sym, ap}
 use mathlib.Core.Logic.{◌⊎◌, inl, inr}
 use mathlib.Core.Bool.{Bool, true, false, cond}
 use mathlib.Core.List.{List, [], ◌∷◌}
-use mathlib.Core.Option.{some}
-use Prim.Native.Nat.{ℕ, zero, suc, ◌+◌, ◌*◌, ◌≤◌}
+use Prim.Native.Nat.{ℕ, suc, ◌+◌, ◌*◌, ◌≤◌}
 use native.Mathlib.Omega.{arith}
 use lib.Dec.{eqb}
 use lib.ListN.{length}
 use borrow.Author.Tests.{eqb-true}
-use Rattle.wire.specs.Frame.{table, kinds, look_up, kind_of, rate, wire_octets, sum_of, numbers_of, Stands, OfRate, LegalRows}
+use Rattle.std.specs.Prelude.{Some}
+use Rattle.wire.specs.Frame.{table, kinds, look_up, kind_of, rate, wire_octets, sum_of, numbers_of, OfRate, LegalRows}
 use Rattle.wire.specs.declared.Framing.{Framing}
 use Rattle.wire.specs.declared.Kind.{Kind}
 use Rattle.wire.specs.declared.Row.{Row}
@@ -17,24 +17,16 @@ use Rattle.wire.proofs.TableLaws.{bounds, coder_octets}
 use Rattle.wire.proofs.Rates.{either}
 
 -- the number of a kind that was looked up
-looked_up : (n : ℕ) (k : Kind) (ks : List Kind) → look_up n ks ≡ some k → n ≡ (table k).number
-looked_up n k [] e = absurd (let z : ◌≡◌ {A = ℕ} 0 1 = cc in omega arith)
+looked_up : (n : ℕ) (k : Kind) (ks : List Kind) → look_up n ks ≡ Some k → n ≡ (table k).number
+looked_up n k [] e = absurd cc
 looked_up n k (j ∷ ks) e = go (eqb (table j).number n) refl e (looked_up n k ks)
   where
-    go : (b : Bool) → eqb (table j).number n ≡ b → cond b (some j) (look_up n ks) ≡ some k → (look_up n ks ≡ some k → n ≡ (table k).number) → n ≡ (table k).number
+    go : (b : Bool) → eqb (table j).number n ≡ b → cond b (Some j) (look_up n ks) ≡ Some k → (look_up n ks ≡ Some k → n ≡ (table k).number) → n ≡ (table k).number
     go true t d rest = let q : j ≡ k = cc in rw (← q) (sym (eqb-true (table j).number n t))
     go false t d rest = rest d
 
-pub number_of : (n : ℕ) (k : Kind) → kind_of n ≡ some k → n ≡ (table k).number
+pub number_of : (n : ℕ) (k : Kind) → kind_of n ≡ Some k → n ≡ (table k).number
 number_of n k e = looked_up n k kinds e
-
-pub noise_stands : (r s : ℕ) (behind : List Row) → s ≡ 0 → behind ≡ [] → Stands r s behind
-noise_stands r zero behind z e = e
-noise_stands r (suc s) behind z e = absurd (omega arith)
-
-pub coder_stands : (r s : ℕ) (behind : List Row) → (s ≡ 0 → ⊥) → s ≡ r → Stands r s behind
-coder_stands r zero behind z e = absurd (z refl)
-coder_stands r (suc s) behind z e = e
 
 pub length_numbers : (xs : List Row) → length (numbers_of xs) ≡ 2 * length xs
 length_numbers [] = refl

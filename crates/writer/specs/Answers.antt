@@ -1,14 +1,11 @@
 -- What the public functions answer, and the numbers of each case (docs/FORMAT.md, "Refusals").
-use Rattle.std.specs.Prelude.{List, ℕ, length}
+use Rattle.std.specs.Prelude.{List, ℕ, length, Result, Ok, Err}
 use Rattle.refusal.specs.Report.{Report, accepted, refused_with, refusal}
+use Rattle.refusal.specs.declared.Refusal.{Refusal}
 use Rattle.wire.specs.Frame.{body_octets, wire_octets, sum_of}
 use Rattle.wire.specs.declared.Row.{Row}
 use Rattle.writer.specs.Rows.{Outcome, passed, refused}
 use Rattle.writer.specs.declared.Totals.{Totals}
-use Rattle.writer.specs.declared.RowCheck.{RowCheck}
-use Rattle.writer.specs.declared.RowCheck.TheVariants.{Sound, Refused as RowsRefused}
-use Rattle.writer.specs.declared.Writing.{Writing}
-use Rattle.writer.specs.declared.Writing.TheVariants.{Written, Refused}
 
 -- ---- the checks of rows alone
 
@@ -21,33 +18,23 @@ abbrev pub no_totals : Totals
 no_totals = record { rows = 0; bodies = 0; wire = 0 }
 
 -- the answer of these checks
-abbrev pub row_check_of : Outcome (List Row) → RowCheck
-row_check_of (passed xs) = Sound (totals xs)
-row_check_of (refused n place) = RowsRefused (refusal n place)
+abbrev pub row_check_of : Outcome (List Row) → Result Totals Refusal
+row_check_of (passed xs) = Ok (totals xs)
+row_check_of (refused reason place) = Err (refusal reason place)
 
 -- the numbers of what these checks come to
 abbrev pub rows_report : Outcome (List Row) → Report Totals
 rows_report (passed xs) = accepted (totals xs)
-rows_report (refused n place) = refused_with no_totals (refusal n place)
-
--- the numbers of each case of their answer
-abbrev pub row_check_report : RowCheck → Report Totals
-row_check_report (Sound t) = accepted t
-row_check_report (RowsRefused x) = refused_with no_totals x
+rows_report (refused reason place) = refused_with no_totals (refusal reason place)
 
 -- ---- the writer
 
 -- the writer's answer
-abbrev pub writing_of : Outcome (List ℕ) → Writing
-writing_of (passed os) = Written (length os)
-writing_of (refused n place) = Refused (refusal n place)
+abbrev pub writing_of : Outcome (List ℕ) → Result ℕ Refusal
+writing_of (passed os) = Ok (length os)
+writing_of (refused reason place) = Err (refusal reason place)
 
 -- the numbers of what a writing comes to: the octets written, 0 under a refusal
 abbrev pub write_report : Outcome (List ℕ) → Report ℕ
 write_report (passed os) = accepted (length os)
-write_report (refused n place) = refused_with 0 (refusal n place)
-
--- the numbers of each case of its answer
-abbrev pub writing_report : Writing → Report ℕ
-writing_report (Written m) = accepted m
-writing_report (Refused x) = refused_with 0 x
+write_report (refused reason place) = refused_with 0 (refusal reason place)

@@ -1,22 +1,21 @@
 -- What the public functions promise: their numbers and the lent buffer by definitions, and of the writer when it accepts, over wire's
 -- legal sequences alone, and what is written then.
-use Rattle.std.specs.Prelude.{◌≡◌, List, ◌++◌, ℕ, ◌≤◌, length, drop}
-use Rattle.std.proofs.Math.Option.{some}
-use Rattle.refusal.specs.Report.{Report, accepted}
+use Rattle.std.specs.Prelude.{◌≡◌, List, ◌++◌, ℕ, ◌≤◌, length, drop, Some, Result}
+use Rattle.refusal.specs.Report.{Report, accepted, report_of}
+use Rattle.refusal.specs.declared.Refusal.{Refusal}
 use Rattle.wire.specs.Frame.{framing_of, Frame, Legal, octets_of, rows_of, numbers_of, bodies_of}
 use Rattle.wire.specs.declared.Session.{Session}
 use Rattle.wire.specs.declared.Framing.{Framing}
 use Rattle.wire.specs.declared.Framing.TheVariants.{Unframed}
 use Rattle.writer.specs.Rows.{check_of}
 use Rattle.writer.specs.Write.{write_in, out_of}
-use Rattle.writer.specs.Answers.{row_check_of, rows_report, row_check_report, writing_of, write_report, writing_report}
-use Rattle.writer.specs.declared.RowCheck.{RowCheck}
-use Rattle.writer.specs.declared.Writing.{Writing}
+use Rattle.writer.specs.Answers.{no_totals, row_check_of, rows_report, writing_of, write_report}
+use Rattle.writer.specs.declared.Totals.{Totals}
 
 -- what `check_rows` promises of the numbers ns, where framing is not agreed
-pub record Checks (ns : List ℕ) (r : RowCheck) : Type 0 where
+pub record Checks (ns : List ℕ) (r : Result Totals Refusal) : Type 0 where
   pub answer : r ≡ row_check_of (check_of Unframed ns)
-  pub numbers : row_check_report r ≡ rows_report (check_of Unframed ns)
+  pub numbers : report_of no_totals r ≡ rows_report (check_of Unframed ns)
 
 -- rows and bodies describe this legal sequence
 pub record Describe (fr : Framing) (ns bs : List ℕ) (fs : List Frame) : Type 0 where
@@ -36,8 +35,8 @@ pub record Exact (fr : Framing) (ns bs out : List ℕ) (r : Report ℕ) (left : 
 
 -- what `write` promises in a session: its answer and numbers in the order and at the places of `write_in`, what `out` holds at exit, and in
 -- each legal session the exactness above
-pub record Writes (ses : Session) (ns bs out : List ℕ) (r : Writing) (left : List ℕ) : Type 0 where
+pub record Writes (ses : Session) (ns bs out : List ℕ) (r : Result ℕ Refusal) (left : List ℕ) : Type 0 where
   pub answer : r ≡ writing_of (write_in (framing_of ses) ns bs (length out))
-  pub numbers : writing_report r ≡ write_report (write_in (framing_of ses) ns bs (length out))
+  pub numbers : report_of 0 r ≡ write_report (write_in (framing_of ses) ns bs (length out))
   pub leaves : left ≡ out_of (write_in (framing_of ses) ns bs (length out)) out
-  pub exact : (fr : Framing) → framing_of ses ≡ some fr → Exact fr ns bs out (writing_report r) left
+  pub exact : (fr : Framing) → framing_of ses ≡ Some fr → Exact fr ns bs out (report_of 0 r) left

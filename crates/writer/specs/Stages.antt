@@ -1,27 +1,22 @@
 -- What the writer's private functions ask of one another and hand on. No public promise reaches this file.
-use Rattle.std.specs.Prelude.{◌≡◌, List, [], ◌∷◌, ℕ, zero, suc, ◌+◌, ◌-◌, ◌≤◌, length, get_or, take, drop}
-use Rattle.std.proofs.Math.Option.{Option, none, some}
-use Rattle.std.proofs.Math.Seq.{paste}
-use Rattle.refusal.specs.Numbers.{unknown}
-use Rattle.wire.specs.Frame.{agreed_rate, AgreedOn, LegalRow, row, rate, base, top, body_octets, wire_octets, wire_of, sum_of}
+use Rattle.std.specs.Prelude.{◌≡◌, List, [], ◌∷◌, ◌++◌, ℕ, zero, suc, ◌+◌, ◌-◌, ◌≤◌, length, get_or, set, Option, Some, None, Result, Ok, Err}
+use Rattle.refusal.specs.declared.Reason.{Reason}
+use Rattle.refusal.specs.declared.Reason.TheVariants.{Unknown}
+use Rattle.wire.specs.Frame.{agreed_rate, AgreedOn, row, rate, body_octets, sum_of}
+use Rattle.wire.specs.Answers.{shape_of}
 use Rattle.wire.specs.declared.Framing.{Framing}
 use Rattle.wire.specs.declared.Kind.{Kind}
 use Rattle.wire.specs.declared.Row.{Row}
+use Rattle.wire.specs.declared.Shape.{Shape}
 use Rattle.writer.specs.Rows.{Outcome, passed, refused, check_of}
-use Rattle.writer.specs.Write.{frames_of, bad_end, out_of}
-use Rattle.writer.specs.Answers.{writing_of}
-use Rattle.writer.specs.declared.Checked.{Checked}
-use Rattle.writer.specs.declared.Checked.TheVariants.{Refused, Passes}
-use Rattle.writer.specs.declared.BadEnd.TheVariants.{Nowhere}
-use Rattle.writer.specs.declared.Starts.{Starts}
-use Rattle.writer.specs.declared.Writing.{Writing}
+use Rattle.writer.specs.Write.{frames_of, bad_end}
 
 -- ---- one row
 
--- what the checks of a row come to, as the code answers it; the place is the caller's
-abbrev pub checked_of : Outcome Row → Checked
-checked_of (passed x) = Passes x
-checked_of (refused n place) = Refused n
+-- what the checks of a row come to, as the code answers it: the row's shape; the place is the caller's
+abbrev pub shape_checked : Framing → Outcome Row → Result Shape Reason
+shape_checked fr (passed x) = Ok (shape_of fr x)
+shape_checked fr (refused reason place) = Err reason
 
 -- each of these rows is of rate r
 abbrev pub AllOf : ℕ → List Row → Type 0
@@ -36,9 +31,9 @@ pub record OneRate (fr : Framing) (r : ℕ) (xs : List Row) : Type 0 where
   pub some : xs ≡ [] → r ≡ agreed_rate fr
 
 -- the row of this kind, if there is one, and this TC; or 12
-unfoldable pub named_row : Option Kind → ℕ → Checked
-named_row none t = Refused unknown
-named_row (some k) t = Passes (row k t)
+unfoldable pub named_row : Option Kind → ℕ → Result Row Reason
+named_row None t = Err Unknown
+named_row (Some k) t = Ok (row k t)
 
 -- ---- one frame
 
@@ -48,24 +43,24 @@ count_by zero t = []
 count_by (suc zero) t = (t + 177) ∷ []
 count_by (suc (suc c)) t = t ∷ 255 ∷ []
 
--- a buffer of `room` octets holds c octets of count from an index on, and each is an octet
-pub record CountFits (room at t c : ℕ) : Type 0 where
-  pub inside : at + c ≤ room
+-- a count of t that takes c octets, each of which is an octet
+pub record CountFits (t c : ℕ) : Type 0 where
   pub most : c ≤ 2
   pub octet : t ≤ 255
   pub short : c ≡ 1 → t ≤ 77
 
--- the body of row x starts at `from`, and a buffer of `room` octets holds its frame from an index on
-pub record FrameFits (fr : Framing) (bs : List ℕ) (from : ℕ) (x : Row) (room at : ℕ) : Type 0 where
-  pub legal : LegalRow x
-  pub lent : from + body_octets x ≤ length bs
-  pub end : get_or bs (from + (base x - 1)) 0 ≤ top fr x
-  pub inside : at + wire_octets x ≤ room
+-- the octets of a frame of this shape and body
+abbrev pub frame_by : Shape → List ℕ → List ℕ
+frame_by s b = set b (s.entry.octets - 1) (get_or b (s.entry.octets - 1) 0 + s.entry.code) ++ count_by s.count s.tc
 
--- the starts of the next body and the next frame, and what is left in `out`, where the frame was written
-pub record FramePut (fr : Framing) (bs : List ℕ) (from : ℕ) (x : Row) (out : List ℕ) (at : ℕ) (r : Starts) (left : List ℕ) : Type 0 where
-  pub starts : r ≡ record { body = from + body_octets x; frame = at + wire_octets x }
-  pub octets : left ≡ paste out at (wire_of fr x (take (body_octets x) (drop from bs))) (wire_octets x)
+-- b is the body of a frame of this shape, which takes `room` octets
+pub record FrameFits (s : Shape) (b : List ℕ) (room : ℕ) : Type 0 where
+  pub body : length b ≡ s.body
+  pub size : room ≡ s.body + s.count
+  pub base : s.entry.octets ≤ s.body
+  pub some : 1 ≤ s.entry.octets
+  pub last : get_or b (s.entry.octets - 1) 0 + s.entry.code ≤ 255
+  pub count : CountFits s.tc s.count
 
 -- ---- all rows
 
@@ -77,9 +72,4 @@ pub record InOrder (fr : Framing) (ns : List ℕ) (m : ℕ) (xs : List Row) : Ty
 -- and no body end is bad
 pub record Ready (fr : Framing) (ns bs : List ℕ) (xs : List Row) : Type 0 where
   pub rows : InOrder fr ns (length bs) xs
-  pub ends : bad_end fr 0 (frames_of xs bs) ≡ Nowhere
-
--- the answer and what is left in `out` are those of this outcome
-pub record Ends (o : Outcome (List ℕ)) (out : List ℕ) (r : Writing) (left : List ℕ) : Type 0 where
-  pub answer : r ≡ writing_of o
-  pub leaves : left ≡ out_of o out
+  pub ends : bad_end fr 0 (frames_of xs bs) ≡ None

@@ -4,6 +4,3 @@ use Rattle.fields.proofs.neighbours.Given as goal
 
 abbrev pub invariant-loop-i : goal.invariant-loop-i
 invariant-loop-i l = Paired l.body l.pairs l.behind l.i
-
-abbrev pub decreases-loop-i : goal.decreases-loop-i
-decreases-loop-i l = l.i

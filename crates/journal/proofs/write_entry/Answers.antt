@@ -1,18 +1,9 @@
 -- `journal::write_entry` checks the numbers, the payload and the room, in this order, and then writes.
 use Rattle.std.proofs.Common.{length, arith}
 use Rattle.leb128.proofs.Writing.{octets_few}
-use Rattle.journal.proofs.Writing.{entry_size, write_18_ticks, write_18_source, write_1, write_10, write_all}
+use Rattle.journal.proofs.Writing.{write_ticks, write_source, write_long, write_short, payload_start, write_all}
 use Rattle.journal.proofs.write_entry.Goals as goal
-
-pub returns-then-ticks-gt-TOP_NUMBER : goal.returns-then-ticks-gt-TOP_NUMBER
-returns-then-ticks-gt-TOP_NUMBER c = write_18_ticks _ _ c.if-ticks-gt-TOP_NUMBER.true
-
-pub returns-then-source-gt-TOP_NUMBER : goal.returns-then-source-gt-TOP_NUMBER
-returns-then-source-gt-TOP_NUMBER c = write_18_source _ _ c.if-ticks-gt-TOP_NUMBER.false c.if-source-gt-TOP_NUMBER.true
-
-pub returns-then-payload-gt-MOST_OCTETS : goal.returns-then-payload-gt-MOST_OCTETS
-returns-then-payload-gt-MOST_OCTETS c =
-    write_1 _ _ c.if-ticks-gt-TOP_NUMBER.false c.if-source-gt-TOP_NUMBER.false c.if-payload-gt-MOST_OCTETS.true
+use Rattle.journal.proofs.write_entry.Goals.{then-ticks-via-then-ticks, then-ticks-via-else-ticks+then-source}
 
 pub overflow_add-numbers : goal.overflow_add-numbers
 overflow_add-numbers c = omega (arith, octets_few c.args.ticks, octets_few c.args.source)
@@ -25,34 +16,33 @@ pub overflow_add-size : goal.overflow_add-size
 overflow_add-size c =
     omega (arith, octets_few c.args.ticks, octets_few c.args.source, octets_few (length c.args.payload.now))
 
--- from here on, the octets that were counted are the entry's
+pub returns-then-ticks : goal.returns-then-ticks
+returns-then-ticks c =
+    elim c.then-ticks.branch [
+      | then-ticks-via-then-ticks w ↦ write_ticks _ _ c.at.ensures w.if-ticks.true
+      | then-ticks-via-else-ticks+then-source w ↦ write_source _ _ w.if-ticks.false c.at.ensures w.if-source.true
+    ]
+
+pub returns-then-payload-gt-MOST_OCTETS : goal.returns-then-payload-gt-MOST_OCTETS
+returns-then-payload-gt-MOST_OCTETS c =
+    write_long _ _ c.if-ticks.false c.if-source.false c.at-then-payload-gt-MOST_OCTETS.ensures c.if-payload-gt-MOST_OCTETS.true
 
 pub returns-then-out-size : goal.returns-then-out-size
 returns-then-out-size c =
-    let counted =
-    entry_size c.args.ticks c.args.source c.args.payload.now
-    (record { ticks = c.if-ticks-gt-TOP_NUMBER.false; source = c.if-source-gt-TOP_NUMBER.false; payload = c.if-payload-gt-MOST_OCTETS.false })
-    c.size_of.ensures
-    c.size_of-2.ensures
-    c.size_of-3.ensures in
-    write_10 _ _ c.if-ticks-gt-TOP_NUMBER.false c.if-source-gt-TOP_NUMBER.false c.if-payload-gt-MOST_OCTETS.false counted c.if-out-size.true
+    write_short _ _ c.if-ticks.false c.if-source.false c.if-payload-gt-MOST_OCTETS.false c.size_of.ensures c.size_of-2.ensures c.size_of-3.ensures
+    c.at-then-out-size.ensures c.if-out-size.true
 
-pub put_entry-requires : goal.put_entry-requires
-put_entry-requires c =
-    let counted =
-    entry_size c.args.ticks c.args.source c.args.payload.now
-    (record { ticks = c.if-ticks-gt-TOP_NUMBER.false; source = c.if-source-gt-TOP_NUMBER.false; payload = c.if-payload-gt-MOST_OCTETS.false })
-    c.size_of.ensures
-    c.size_of-2.ensures
-    c.size_of-3.ensures in
-    (record { ticks = c.if-ticks-gt-TOP_NUMBER.false; source = c.if-source-gt-TOP_NUMBER.false; payload = c.if-payload-gt-MOST_OCTETS.false }, counted, c.if-out-size.false)
+pub slice_bounds-copy-count : goal.slice_bounds-copy-count
+slice_bounds-copy-count c =
+    payload_start (record { ticks = c.args.ticks; source = c.args.source; payload = c.args.payload.now }) c.args.out.now c.if-ticks.false c.if-source.false
+    c.if-payload-gt-MOST_OCTETS.false c.size_of.ensures c.size_of-2.ensures c.size_of-3.ensures c.if-out-size.false
+    c.put_number-behind_ticks.ensures c.put_number-behind_source.ensures c.put_number-start.ensures
+
+pub slice_bounds-copy-start : goal.slice_bounds-copy-start
+slice_bounds-copy-start c = slice_bounds-copy-count c
 
 pub returns : goal.returns
 returns c =
-    let counted =
-    entry_size c.args.ticks c.args.source c.args.payload.now
-    (record { ticks = c.if-ticks-gt-TOP_NUMBER.false; source = c.if-source-gt-TOP_NUMBER.false; payload = c.if-payload-gt-MOST_OCTETS.false })
-    c.size_of.ensures
-    c.size_of-2.ensures
-    c.size_of-3.ensures in
-    write_all _ _ c.if-ticks-gt-TOP_NUMBER.false c.if-source-gt-TOP_NUMBER.false c.if-payload-gt-MOST_OCTETS.false counted c.if-out-size.false c.put_entry.ensures
+    write_all (record { ticks = c.args.ticks; source = c.args.source; payload = c.args.payload.now }) c.args.out.now c.if-ticks.false c.if-source.false
+    c.if-payload-gt-MOST_OCTETS.false c.size_of.ensures c.size_of-2.ensures c.size_of-3.ensures c.if-out-size.false
+    c.put_number-behind_ticks.ensures c.put_number-behind_source.ensures c.put_number-start.ensures c.copy.ensures

@@ -1,19 +1,20 @@
 -- Each part that the loop of `listing_io::list_block` lists takes it on.
-use Rattle.std.proofs.Common.{arith}
-use Rattle.listing_io.proofs.Blocks.{kept_upto, kept_some, kept_step}
+use Rattle.std.proofs.Common.{◌≤◌, length, ◌∙◌, arith}
+use Rattle.std.proofs.lemmas.Bool.Decides.{nat_tests}
+use Rattle.listing_io.proofs.Blocks.{upto, smaller, carries}
 use Rattle.listing_io.proofs.list_block.Goals as goal
 
-pub overflow_add-from : goal.overflow_add-from
-overflow_add-from c = omega (arith, kept_upto c.loop-from.invariant c.list-listed.ensures c.in-Part.is)
+pub slice_bounds-rest-count : goal.slice_bounds-rest-count
+slice_bounds-rest-count c = upto c.list.ensures _ c.in_ok-progress.ensures.cases
 
-pub loop-from-smaller : goal.loop-from-smaller
-loop-from-smaller c =
-    omega (
-      arith,
-      kept_upto c.loop-from.invariant c.list-listed.ensures c.in-Part.is,
-      kept_some c.loop-from.invariant c.list-listed.ensures c.in-Part.is c.loop-from-test.true,
-    )
+pub slice_bounds-rest-start : goal.slice_bounds-rest-start
+slice_bounds-rest-start c = omega (arith, upto c.list.ensures _ c.in_ok-progress.ensures.cases)
 
-pub loop-from-preserved : goal.loop-from-preserved
-loop-from-preserved c =
-    kept_step c.loop-from.invariant c.list-listed.ensures c.in-Part.is c.list-listed.auto.payload c.list-listed.auto.out
+pub loop-rest-smaller : goal.loop-rest-smaller
+loop-rest-smaller c =
+    let h : 1 ≤ length c.loop-rest.rest.now = grind (arith, nat_tests) in
+    smaller c.list.ensures _ c.in_ok-progress.ensures.cases h
+
+pub loop-rest-preserved : goal.loop-rest-preserved
+loop-rest-preserved c =
+    c.loop-rest.invariant ∙ carries c.list.ensures _ c.in_ok-progress.ensures.cases

@@ -2,8 +2,8 @@
 use Rattle.moult.proofs.Structs.{augmentation_none, augmentation_there}
 use Rattle.moult.proofs.augmentation_in.Goals as goal
 
-pub returns-in-Missing : goal.returns-in-Missing
-returns-in-Missing c = augmentation_none _ _ _ (λ i. (c.type_inv.payload i).fits) c.locate-location.ensures c.in-Missing.is
+pub returns-in-None : goal.returns-in-None
+returns-in-None c = augmentation_none _ _ _ (λ i. (c.type_inv.payload i).fits) c.locate.ensures c.in-None.is
 
-pub returns-in-At : goal.returns-in-At
-returns-in-At c = augmentation_there _ _ _ (λ i. (c.type_inv.payload i).fits) c.locate-location.ensures _ _ c.in-At.is
+pub returns-in-Some : goal.returns-in-Some
+returns-in-Some c = rw c.into.ensures (augmentation_there _ _ _ (λ i. (c.type_inv.payload i).fits) c.locate.ensures _ c.in-Some.is)

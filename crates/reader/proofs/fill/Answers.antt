@@ -1,60 +1,45 @@
 -- `reader::fill` hands out rows and bodies from the last frame to the first: the loop keeps what FillLoop says.
 use mathlib.Core.Path.{sym}
-use native.Mathlib.Omega.{arith}
 use lib.Seq.{length-take-le}
 use borrow.Author.Rules.{rules}
-use Rattle.reader.proofs.FillLoop.{Turn, fill_start, fill_named, fill_turn, fill_end}
+use Rattle.reader.proofs.FillLoop.{Turn, fill_inside, fill_named, fill_turn, fill_end}
 use Rattle.reader.proofs.fill.Goals as goal
+use Rattle.reader.proofs.fill.Goals.{After-shape_of-shape}
 
-pub loop-unread-init : goal.loop-unread-init
-loop-unread-init c = fill_start _ _ _ _ _ _ c.requires
+turn : (c : After-shape_of-shape)
+    → Turn c.args.framing c.args.payload.now c.args.rows.now c.args.bodies.now c.loop-index.unread c.loop-index.index c.loop-index.at c.loop-index.rows c.loop-index.bodies c.unwrap-row.result c.shape_of-shape.result
+turn c = fill_turn _ _ _ _ _ _ _ _ _ c.loop-index.invariant c.loop-index.auto.bodies c.loop-index-test.true _ _ c.unwrap-row.ensures c.identify.ensures.answer c.shape_of-shape.ensures
 
 pub slice_bounds-identify-end : goal.slice_bounds-identify-end
-slice_bounds-identify-end c = sym (length-take-le _ _ c.loop-unread.invariant.inside)
+slice_bounds-identify-end c = sym (length-take-le _ _ (fill_inside _ _ _ _ _ _ _ _ _ c.loop-index.invariant c.loop-index.auto.bodies c.loop-index-test.true))
 
-pub identify-ending-requires : goal.identify-ending-requires
-identify-ending-requires c = search rules
-
-pub returns-in_default : goal.returns-in_default
-returns-in_default c = absurd (fill_named _ _ _ _ _ _ _ _ _ c.loop-unread.invariant c.loop-unread-test.true _ c.in_default.is c.identify-ending.ensures.answer)
-
-pub shape_of-shape-requires-in-loop-unread : goal.shape_of-shape-requires-in-loop-unread
-shape_of-shape-requires-in-loop-unread c = search rules
+pub unwrap-row-requires : goal.unwrap-row-requires
+unwrap-row-requires c = fill_named _ _ _ _ _ _ _ _ _ c.loop-index.invariant c.loop-index.auto.bodies c.loop-index-test.true c.identify.ensures.answer
 
 pub overflow_sub-unread : goal.overflow_sub-unread
-overflow_sub-unread c =
-    let turn : Turn c.args.framing c.args.payload.now c.args.rows.now c.args.bodies.now c.loop-unread.unread c.loop-unread.index c.loop-unread.at c.loop-unread.rows c.loop-unread.bodies c.in-Names.row c.shape_of-shape.result = fill_turn _ _ _ _ _ _ _ _ _ c.loop-unread.invariant c.loop-unread-test.true _ _ c.in-Names.is c.identify-ending.ensures.answer c.shape_of-shape.ensures in
-    turn.wire
-
-pub overflow_sub-index : goal.overflow_sub-index
-overflow_sub-index c =
-    let turn : Turn c.args.framing c.args.payload.now c.args.rows.now c.args.bodies.now c.loop-unread.unread c.loop-unread.index c.loop-unread.at c.loop-unread.rows c.loop-unread.bodies c.in-Names.row c.shape_of-shape.result = fill_turn _ _ _ _ _ _ _ _ _ c.loop-unread.invariant c.loop-unread-test.true _ _ c.in-Names.is c.identify-ending.ensures.answer c.shape_of-shape.ensures in
-    turn.row
+overflow_sub-unread c = (turn (goal.at.overflow_sub-unread c).After-shape_of-shape).wire
 
 pub overflow_sub-at : goal.overflow_sub-at
-overflow_sub-at c =
-    let turn : Turn c.args.framing c.args.payload.now c.args.rows.now c.args.bodies.now c.loop-unread.unread c.loop-unread.index c.loop-unread.at c.loop-unread.rows c.loop-unread.bodies c.in-Names.row c.shape_of-shape.result = fill_turn _ _ _ _ _ _ _ _ _ c.loop-unread.invariant c.loop-unread-test.true _ _ c.in-Names.is c.identify-ending.ensures.answer c.shape_of-shape.ensures in
-    turn.body
+overflow_sub-at c = (turn (goal.at.overflow_sub-at c).After-shape_of-shape).body
 
-pub put_row-requires : goal.put_row-requires
-put_row-requires c =
-    let turn : Turn c.args.framing c.args.payload.now c.args.rows.now c.args.bodies.now c.loop-unread.unread c.loop-unread.index c.loop-unread.at c.loop-unread.rows c.loop-unread.bodies c.in-Names.row c.shape_of-shape.result = fill_turn _ _ _ _ _ _ _ _ _ c.loop-unread.invariant c.loop-unread-test.true _ _ c.in-Names.is c.identify-ending.ensures.answer c.shape_of-shape.ensures in
-    turn.row_fits
+pub slice_bounds-put_body-end : goal.slice_bounds-put_body-end
+slice_bounds-put_body-end c =
+    let inside = (turn (goal.at.slice_bounds-put_body-end c).After-shape_of-shape).inside in
+    search rules
+
+pub slice_bounds-put_body-end-in-loop-index : goal.slice_bounds-put_body-end-in-loop-index
+slice_bounds-put_body-end-in-loop-index c =
+    let room = (turn (goal.at.slice_bounds-put_body-end-in-loop-index c).After-shape_of-shape).room in
+    search rules
 
 pub put_body-requires : goal.put_body-requires
-put_body-requires c =
-    let turn : Turn c.args.framing c.args.payload.now c.args.rows.now c.args.bodies.now c.loop-unread.unread c.loop-unread.index c.loop-unread.at c.loop-unread.rows c.loop-unread.bodies c.in-Names.row c.shape_of-shape.result = fill_turn _ _ _ _ _ _ _ _ _ c.loop-unread.invariant c.loop-unread-test.true _ _ c.in-Names.is c.identify-ending.ensures.answer c.shape_of-shape.ensures in
-    turn.body_fits
+put_body-requires c = (turn (goal.at.put_body-requires c).After-shape_of-shape).fits
 
-pub loop-unread-smaller : goal.loop-unread-smaller
-loop-unread-smaller c =
-    let turn : Turn c.args.framing c.args.payload.now c.args.rows.now c.args.bodies.now c.loop-unread.unread c.loop-unread.index c.loop-unread.at c.loop-unread.rows c.loop-unread.bodies c.in-Names.row c.shape_of-shape.result = fill_turn _ _ _ _ _ _ _ _ _ c.loop-unread.invariant c.loop-unread-test.true _ _ c.in-Names.is c.identify-ending.ensures.answer c.shape_of-shape.ensures in
-    let w = turn in omega (arith, w.least, w.wire)
+pub loop-index-preserved : goal.loop-index-preserved
+loop-index-preserved c = (turn (goal.at.loop-index-preserved c).After-shape_of-shape).then c.put_row.ensures c.put_body.ensures
 
-pub loop-unread-preserved : goal.loop-unread-preserved
-loop-unread-preserved c =
-    let turn : Turn c.args.framing c.args.payload.now c.args.rows.now c.args.bodies.now c.loop-unread.unread c.loop-unread.index c.loop-unread.at c.loop-unread.rows c.loop-unread.bodies c.in-Names.row c.shape_of-shape.result = fill_turn _ _ _ _ _ _ _ _ _ c.loop-unread.invariant c.loop-unread-test.true _ _ c.in-Names.is c.identify-ending.ensures.answer c.shape_of-shape.ensures in
-    turn.then c.put_row.ensures c.put_body.ensures
+pub returns-clause-rows : goal.returns-clause-rows
+returns-clause-rows c = (fill_end _ _ _ _ _ _ _ _ _ c.loop-index.invariant c.loop-index.auto.bodies c.loop-index-test.false).0
 
-pub returns : goal.returns
-returns c = fill_end _ _ _ _ _ _ _ _ _ c.loop-unread.invariant c.loop-unread-test.false
+pub returns-clause-bodies : goal.returns-clause-bodies
+returns-clause-bodies c = (fill_end _ _ _ _ _ _ _ _ _ c.loop-index.invariant c.loop-index.auto.bodies c.loop-index-test.false).1

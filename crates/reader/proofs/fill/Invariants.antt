@@ -2,8 +2,5 @@
 use Rattle.reader.proofs.FillLoop.{FillLoop}
 use Rattle.reader.proofs.fill.Given as goal
 
-abbrev pub invariant-loop-unread : goal.invariant-loop-unread
-invariant-loop-unread l = FillLoop l.framing l.payload l.initial.rows l.initial.bodies l.unread l.index l.at l.rows l.bodies
-
-abbrev pub decreases-loop-unread : goal.decreases-loop-unread
-decreases-loop-unread l = l.unread
+abbrev pub invariant-loop-index : goal.invariant-loop-index
+invariant-loop-index l = FillLoop l.framing l.payload l.initial.rows l.initial.bodies l.unread l.index l.at l.rows l.bodies

@@ -4,10 +4,10 @@ use Rattle.views.proofs.Shown.{frame_missing, frame_at}
 use Rattle.views.proofs.frame_or.Goals as goal
 
 pub part_of-requires : goal.part_of-requires
-part_of-requires c = (within _ _ _ (λ i. (c.type_inv.payload i).fits) c.locate-location.ensures _ _ c.in-At.is).frame
+part_of-requires c = (within _ _ _ (λ i. (c.type_inv.payload i).fits) c.locate.ensures _ c.in-Some.is).frame
 
-pub returns-in-Missing : goal.returns-in-Missing
-returns-in-Missing c = frame_missing _ _ _ (λ i. (c.type_inv.payload i).fits) c.locate-location.ensures.answer _ c.in-Missing.is
+pub returns-in-None : goal.returns-in-None
+returns-in-None c = frame_missing _ _ _ (λ i. (c.type_inv.payload i).fits) c.locate.ensures.answer _ c.in-None.is
 
-pub returns-in-At : goal.returns-in-At
-returns-in-At c = frame_at _ _ _ (λ i. (c.type_inv.payload i).fits) c.locate-location.ensures.answer _ _ c.in-At.is _ c.part_of.ensures
+pub returns-in-Some : goal.returns-in-Some
+returns-in-Some c = frame_at _ _ _ (λ i. (c.type_inv.payload i).fits) c.locate.ensures.answer _ c.in-Some.is _ c.part_of.ensures

@@ -1,6 +1,24 @@
--- `views::locate` gives the location of the row in a legal session, or missing.
-use Rattle.views.proofs.RowLocation.{framed_located}
+-- `views::locate` gives the location of the row in a legal session, or none.
+use Rattle.octets.specs.Octet.{Octets}
+use Rattle.views.proofs.RowLocation.{locates_in, case_refused, case_holds, case_past}
 use Rattle.views.proofs.locate.Goals as goal
 
-pub returns-in-Is : goal.returns-in-Is
-returns-in-Is c = framed_located _ _ _ (λ i. (c.type_inv.payload i).fits) c.framing_of-known.ensures _ c.in-Is.is c.locate_framed.ensures
+pub returns-in_err-summary : goal.returns-in_err-summary
+returns-in_err-summary c =
+    let octets : Octets c.args.payload.now = λ i. (c.type_inv.payload i).fits in
+    rw c.from_residual-in_err-summary.ensures (case_refused _ _ _ octets c.try_from.ensures _ c.in_ok-framing.ensures.value c.walk.ensures c.in_err-summary.ensures.value)
+
+pub returns-then-summary-row : goal.returns-then-summary-row
+returns-then-summary-row c =
+    let octets : Octets c.args.payload.now = λ i. (c.type_inv.payload i).fits in
+    case_past _ _ _ octets c.try_from.ensures _ c.in_ok-framing.ensures.value c.walk.ensures _ c.in_ok-summary.ensures.value c.if-summary-row.true
+
+pub step_back-requires : goal.step_back-requires
+step_back-requires c =
+    let octets : Octets c.args.payload.now = λ i. (c.type_inv.payload i).fits in
+    (case_holds _ _ c.args.row octets c.try_from.ensures _ c.in_ok-framing.ensures.value c.walk.ensures _ c.in_ok-summary.ensures.value, c.if-summary-row.false)
+
+pub returns : goal.returns
+returns c =
+    let octets : Octets c.args.payload.now = λ i. (c.type_inv.payload i).fits in
+    locates_in _ _ _ octets c.try_from.ensures _ c.in_ok-framing.ensures.value c.walk.ensures c.step_back.ensures

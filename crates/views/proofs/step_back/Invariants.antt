@@ -1,9 +1,7 @@
--- `views::step_back` comes to the frame of the row.
-use Rattle.views.proofs.StepBackLoop.{StepBackLoop}
+-- `views::step_back` comes to the frame of the row: the loop leaves one frame less unread each time.
+use Rattle.std.proofs.Common.{◌+◌, ◌-◌}
+use Rattle.views.proofs.StepBackLoop.{Unread}
 use Rattle.views.proofs.step_back.Given as goal
 
-abbrev pub invariant-loop-named : goal.invariant-loop-named
-invariant-loop-named l = StepBackLoop l.framing l.payload l.row l.unread l.rows
-
-abbrev pub decreases-loop-named : goal.decreases-loop-named
-decreases-loop-named l = l.rows
+abbrev pub invariant-loop : goal.invariant-loop
+invariant-loop l = Unread l.framing l.payload (l.frames + (l.row + 1) - l.counter) l.unread

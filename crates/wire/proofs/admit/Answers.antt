@@ -1,24 +1,22 @@
 -- `wire::admit` makes the step over a frame, or its refusal: the cases of StepCases, in the code's order.
-use Rattle.wire.proofs.StepCases.{admit_cut, admit_foreign, admit_noise, admit_late, admit_first, admit_same, admit_mixed}
+use native.Mathlib.Omega.{arith}
+use Rattle.wire.proofs.StepCases.{admit_cut, admit_foreign, admit_late, admit_mixed, admit_passes}
 use Rattle.wire.proofs.admit.Goals as goal
 
-pub returns-then-n-wire : goal.returns-then-n-wire
-returns-then-n-wire c = admit_cut _ _ _ _ _ _ c.shape_of-shape.ensures c.if-n-wire.true
+pub returns-then-n-shape : goal.returns-then-n-shape
+returns-then-n-shape c = admit_cut _ _ _ _ _ _ c.shape_of-shape.ensures c.if-n-shape.true
 
-pub returns-then-shape-unread : goal.returns-then-shape-unread
-returns-then-shape-unread c = admit_foreign _ _ _ _ _ _ c.shape_of-shape.ensures c.if-n-wire.false c.if-shape-unread.true
+pub returns-then-entry-unread : goal.returns-then-entry-unread
+returns-then-entry-unread c = admit_foreign _ _ _ _ _ _ c.shape_of-shape.ensures c.if-n-shape.false c.if-entry-unread.true
 
-pub returns-then-frames-eq0 : goal.returns-then-frames-eq0
-returns-then-frames-eq0 c = admit_noise _ _ _ _ _ _ c.shape_of-shape.ensures c.if-n-wire.false c.if-shape-unread.false c.if-shape-eq0.true c.if-frames-eq0.true
+pub returns-then-frames-gt0 : goal.returns-then-frames-gt0
+returns-then-frames-gt0 c = admit_late _ _ _ _ _ _ c.shape_of-shape.ensures c.if-n-shape.false c.if-entry-unread.false c.if-entry-eq0.true (λ e. omega arith)
 
-pub returns-then-shape-eq0 : goal.returns-then-shape-eq0
-returns-then-shape-eq0 c = admit_late _ _ _ _ _ _ c.shape_of-shape.ensures c.if-n-wire.false c.if-shape-unread.false c.if-shape-eq0.true c.if-frames-eq0.false
-
-pub returns-then-shape-rate : goal.returns-then-shape-rate
-returns-then-shape-rate c = admit_same _ _ _ _ _ _ c.shape_of-shape.ensures c.if-n-wire.false c.if-shape-unread.false c.if-shape-eq0.false c.if-shape-rate.true
-
-pub returns-then-rate-eq0 : goal.returns-then-rate-eq0
-returns-then-rate-eq0 c = admit_first _ _ _ _ _ _ c.shape_of-shape.ensures c.if-n-wire.false c.if-shape-unread.false c.if-shape-eq0.false c.if-rate-eq0.true
+pub returns-then-rate-ne0 : goal.returns-then-rate-ne0
+returns-then-rate-ne0 c = admit_mixed _ _ _ _ _ _ c.shape_of-shape.ensures c.if-n-shape.false c.if-entry-unread.false c.if-entry-ne0.true c.if-rate-ne0.true c.if-entry-rate.true
 
 pub returns : goal.returns
-returns c = admit_mixed _ _ _ _ _ _ c.shape_of-shape.ensures c.if-n-wire.false c.if-shape-unread.false c.if-shape-eq0.false c.if-rate-eq0.false c.if-shape-rate.false
+returns c =
+    admit_passes _ _ _ _ _ _ c.shape_of-shape.ensures c.if-n-shape.false c.if-entry-unread.false
+    (λ z. omega arith)
+    (λ z q. omega arith)

@@ -13,5 +13,5 @@ overflow_add-result c =
       ap (λ (e : Entry). e.octets) c.entry_in-entry.ensures,
       ap (λ (e : Entry). e.octets) c.entry_of.ensures,
       c.count_octets-count.ensures,
-      count_most c.entry_in-entry.result.counting c.args.row.tc,
+      count_most c.entry_in-entry.result.counting c.from-tc.result,
     )

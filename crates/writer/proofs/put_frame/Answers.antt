@@ -1,13 +1,12 @@
 -- `writer::put_frame` copies a body, sets the rate code in its base's last octet, and writes the count behind it.
-use Rattle.writer.proofs.Shapes.{body_copied, count_asked, frame_put}
+use mathlib.Core.Path.{◌≡◌, ◌∙◌}
+use native.Mathlib.Omega.{arith}
+use lib.ListN.{length}
+use Rattle.octets.proofs.Parts.{over-whole}
 use Rattle.writer.proofs.put_frame.Goals as goal
-
-pub put_count-requires : goal.put_count-requires
-put_count-requires c =
-    let is = c.shape_of-shape.ensures in
-    count_asked _ _ _ _ _ _ c.requires is (body_copied _ _ c.args.from c.args.row _ _ c.requires is c.copy.ensures)
 
 pub returns : goal.returns
 returns c =
-    let is = c.shape_of-shape.ensures in
-    frame_put _ _ _ _ _ _ c.requires is (body_copied _ _ c.args.from c.args.row _ _ c.requires is c.copy.ensures) c.put_count.ensures
+    let copied : c.copy.new.dst ≡ c.args.body.now = c.copy.ensures ∙ over-whole _ _ (omega arith) in
+    let z : length c.split_at_mut-start.result.1.now ≡ c.args.shape.count = omega arith in
+    cc

@@ -1,9 +1,0 @@
--- `record::rows_of` answers what the record holds, how many rows it has.
-use mathlib.Core.Path.{refl}
-use Rattle.record.specs.Afresh.{record_of}
-use Rattle.record.proofs.Asking.{asked_field}
-use Rattle.record.proofs.rows_of.Goals as goal
-
-pub returns : goal.returns
-unfolding record_of
-returns c = asked_field refl (λ xs. refl)

@@ -1,0 +1,6 @@
+-- `vectors::text::characters` goes through the text.
+use Rattle.std.proofs.Common.{length}
+use Rattle.vectors.proofs.text.characters.Given as goal
+
+abbrev pub decreases-loop-rest : goal.decreases-loop-rest
+decreases-loop-rest l = length l.rest
