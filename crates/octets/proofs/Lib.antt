@@ -3,3 +3,4 @@ pub mod Copied
 pub mod Parts
 pub mod Put
 pub mod Octet
+pub mod Blocks
