@@ -2,7 +2,6 @@ pub mod Digits
 pub mod Octets
 pub mod Runs
 pub mod Computed
-pub mod Reversed
 pub mod Placed
 pub mod Tables
 pub mod Large

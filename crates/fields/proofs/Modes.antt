@@ -40,18 +40,34 @@ widths_ruled : list_all ruled widths ≡ true
 unfolding widths ruled one_to_eight total
 widths_ruled = refl
 
-pub mode_ruled : (mode : ℕ) → is_mode mode ≡ true → IsWidths (widths_of mode)
+-- what holds of each list of the table holds of a mode's
+every_mode : (test : List ℕ → Bool) → list_all test widths ≡ true → (mode : ℕ) → is_mode mode ≡ true → test (widths_of mode) ≡ true
 unfolding is_mode widths_of
-mode_ruled mode m =
+every_mode test t mode m =
     let parts : (leb 1 mode ≡ true) × (leb mode (length widths) ≡ true) = and_parts _ _ m in
     let from : 1 ≤ mode = leb-true 1 mode parts.0 in
     let to : mode ≤ length widths = leb-true mode (length widths) parts.1 in
-    is_ruled (widths_of mode) (AllPass-from_list_all ruled widths widths_ruled (mode - 1) [] (omega arith))
+    AllPass-from_list_all test widths t (mode - 1) [] (omega arith)
+
+pub mode_ruled : (mode : ℕ) → is_mode mode ≡ true → IsWidths (widths_of mode)
+mode_ruled mode m = is_ruled (widths_of mode) (every_mode ruled widths_ruled mode m)
 
 -- a body's bits are a mode's fields', each once
 pub mode_once : (mode : ℕ) → is_mode mode ≡ true → EachOnce (table_of mode)
 unfolding table_of
 mode_once mode m = consecutive_once (widths_of mode) (mode_ruled mode m).sum
+
+-- no mode has more fields than eleven
+few : List ℕ → Bool
+few ws = leb (length ws) 11
+
+widths_few : list_all few widths ≡ true
+unfolding widths few
+widths_few = refl
+
+pub mode_count : (mode : ℕ) → is_mode mode ≡ true → count_of mode ≤ 11
+unfolding count_of table_of few
+mode_count mode m = omega (arith, length-consecutive 0 (widths_of mode), leb-true (length (widths_of mode)) 11 (every_mode few widths_few mode m))
 
 -- the table of a mode that has these widths, and the number of its fields
 module _ {mode : ℕ} {ws : List ℕ} (h : HasWidths mode ws) where

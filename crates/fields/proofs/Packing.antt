@@ -76,7 +76,7 @@ module _ (table : Table) (fields : List ℕ) (order : flatten table ≡ run 0 54
   length-bits : length (field_bits table fields) ≡ 54
   length-bits = length-field_bits table fields size ∙ ap length order ∙ length_run 0 54
 
-  word_small : word < 2 ^ 54
+  pub word_small : word < 2 ^ 54
   word_small = rw e (rw length-bits at (spelled_lt (field_bits table fields) (bits-field_bits table fields)))
 
   -- and with two that are 0 behind them, those of the body

@@ -1,7 +1,7 @@
 // The fields of a 600 bps frame's body, modes 1 to 3: one table of widths, one unpacker, one packer (docs/FORMAT.md, "Fields").
 #![tactic(auto)]
 
-ghost use Rattle.std.specs.Prelude.{◌≡◌, [], ◌∷◌, ℕ, ◌+◌, ◌<◌, length, get_or, MatchResult};
+ghost use Rattle.std.specs.Prelude.{◌≡◌, [], ◌∷◌, reverse, ℕ, ◌+◌, ◌<◌, length, get_or, MatchResult};
 ghost use Rattle.fields.specs.Bits.{digits, spelled, bits_of, octets_of};
 ghost use Rattle.fields.specs.Table.{fields_of, field_bits, consecutive};
 ghost use Rattle.fields.specs.Answers.{Unpacks, Packs};
@@ -19,7 +19,17 @@ const FREE_BITS: u32 = 10;
 // The most that the last octet of a body may be.
 const BODY_END: u8 = 63;
 
-// A mode is the widths of its fields in bits, from B_01 on.
+// The widths of each mode's fields in bits, from B_01 on.
+const WIDTHS: [&[u8]; 3] = [
+    // Voicing; LSF1,4; LSF1,3; LSF1,2; LSF1,1; LSF2,4; LSF2,3; LSF2,2; LSF2,1; GAIN2; GAIN1
+    &[5, 4, 4, 4, 6, 4, 4, 4, 6, 6, 7],
+    // Voicing; Pitch; LSF1,3; LSF1,2; LSF1,1; LSF2,3; LSF2,2; LSF2,1; GAIN2; GAIN1
+    &[5, 6, 4, 4, 6, 4, 5, 7, 6, 7],
+    // Voicing; Pitch; LSF1,3; LSF1,2; LSF1,1; LSF2,3; LSF2,2; LSF2,1; GAIN2; GAIN1
+    &[5, 8, 4, 5, 6, 4, 5, 6, 5, 6],
+];
+
+// A mode is the widths of its fields.
 #[derive(Clone, Copy, Debug, PartialEq, Eq)]
 struct Mode {
     widths: &'static [u8],
@@ -32,16 +42,12 @@ impl TryFrom<u8> for Mode {
     ghost try_from_gives = { λ number r. MatchResult r (λ mode. HasWidths number mode.widths.now) (IsNoMode number) };
 
     fn try_from(number: u8) -> Result<Mode, Reason> {
-        let widths: &'static [u8] = match number {
-            // Voicing; LSF1,4; LSF1,3; LSF1,2; LSF1,1; LSF2,4; LSF2,3; LSF2,2; LSF2,1; GAIN2; GAIN1
-            1 => &[5, 4, 4, 4, 6, 4, 4, 4, 6, 6, 7],
-            // Voicing; Pitch; LSF1,3; LSF1,2; LSF1,1; LSF2,3; LSF2,2; LSF2,1; GAIN2; GAIN1
-            2 => &[5, 6, 4, 4, 6, 4, 5, 7, 6, 7],
-            // Voicing; Pitch; LSF1,3; LSF1,2; LSF1,1; LSF2,3; LSF2,2; LSF2,1; GAIN2; GAIN1
-            3 => &[5, 8, 4, 5, 6, 4, 5, 6, 5, 6],
-            _ => return Err(Reason::WrongMode),
-        };
-        Ok(Mode { widths })
+        match number {
+            1..=3 => Ok(Mode {
+                widths: WIDTHS[usize::from(number) - 1],
+            }),
+            _ => Err(Reason::WrongMode),
+        }
     }
 }
 
@@ -85,15 +91,21 @@ impl Mode {
     }
 }
 
-// Each octet of a body with the one behind it as one number of 16 bits, the first bit the highest: B_01 is the lowest bit of an octet and
-// the highest of a field. Behind the last octet the bits are 0.
+// An octet with its bits in reverse order: B_01 is the lowest bit of an octet and the highest of a field.
+fn reversed(octet: u8) -> u8
+    ensures { result ≡ spelled (reverse (digits 8 octet)) }
+{
+    octet.reverse_bits()
+}
+
+// Each octet of a body with the one behind it as one number of 16 bits, the first bit the highest. Behind the last octet the bits are 0.
 fn neighbours(body: &[u8; BODY_OCTETS]) -> [u16; BODY_OCTETS]
     ensures { (i : ℕ) → i < 7 → get_or result i 0 ≡ spelled (bits_of (get_or body.now i 0 ∷ get_or body.now (i + 1) 0 ∷ [])) }
 {
     let mut pairs = [0; BODY_OCTETS];
     let mut behind = 0;
     for i in (0..BODY_OCTETS).rev() {
-        let octet = u16::from(body[i].reverse_bits());
+        let octet = u16::from(reversed(body[i]));
         pairs[i] = octet * 256 + behind;
         behind = octet;
     }
@@ -106,7 +118,7 @@ fn put_octets(word: u64, out: &mut [u8; BODY_OCTETS])
 {
     let octets = word.to_be_bytes();
     for (i, octet) in out.iter_mut().enumerate() {
-        *octet = octets[i].reverse_bits();
+        *octet = reversed(octets[i]);
     }
 }
 

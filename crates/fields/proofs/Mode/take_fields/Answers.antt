@@ -32,7 +32,7 @@ loop-i-preserved c =
     let same : length (consecutive 0 ws) ≡ length ws = length-consecutive 0 ws in
     rw c.from-at.ensures
     (taken_step _ _ _ _ _ _ c.loop-i.invariant (c.requires ∙ sym same) (widths_order ws c.args.self.ruled) (omega arith) (sym (width_consecutive 0 ws _))
-    (16 - w - c.loop-i.at % 8) (omega arith) (c.neighbours-pairs.ensures _ (omega arith)) (shifted _ (c.loop-i.at % 8) w _ (omega arith)))
+    (16 - w - c.loop-i.at % 8) (omega arith) (c.neighbours-pairs.ensures _ (omega arith)) (shifted _ _ w _ (omega arith)))
 
 pub returns : goal.returns
 returns c =
