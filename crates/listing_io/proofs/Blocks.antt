@@ -39,15 +39,16 @@ module _ {s : State} {rest b o b' o' : List ℕ} {r : Result Progress Refusal} (
   pub upto : p.taken ≤ length rest
   upto = part_taken part
 
-  -- what is left behind it
-  left : take (length rest - p.taken) (drop p.taken rest) ≡ drop p.taken rest
-  left = take_all (length rest - p.taken) (drop p.taken rest) (omega (arith, length-drop p.taken rest))
+  -- what is left behind it, from the index of the first octet that was not taken
+  module _ {n : ℕ} (same : n ≡ p.taken) where
+    left : take (length rest - n) (drop n rest) ≡ drop n rest
+    left = take_all (length rest - n) (drop n rest) (omega (arith, length-drop n rest))
 
-  pub smaller : 1 ≤ length rest → length (take (length rest - p.taken) (drop p.taken rest)) < length rest
-  smaller h = omega (arith, ap length left, length-drop p.taken rest, part_some part h)
+    pub smaller : 1 ≤ length rest → length (take (length rest - n) (drop n rest)) < length rest
+    smaller h = omega (arith, ap length left, length-drop n rest, part_some part h)
 
-  pub carries : carried_from s b rest ≡ carried_from p.state b' (take (length rest - p.taken) (drop p.taken rest))
-  carries =
-      ap (carried_from s b) (sym (append-nil rest))
-      ∙ ap carried (part-run part [])
-      ∙ ap (carried_from p.state b') (append-nil (drop p.taken rest) ∙ sym left)
+    pub carries : carried_from s b rest ≡ carried_from p.state b' (take (length rest - n) (drop n rest))
+    carries =
+        ap (carried_from s b) (sym (append-nil rest))
+        ∙ ap carried (part-run part [])
+        ∙ ap (carried_from p.state b') (append-nil (drop p.taken rest) ∙ ap (λ (k : ℕ). drop k rest) (sym same) ∙ sym left)

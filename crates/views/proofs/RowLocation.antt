@@ -9,14 +9,12 @@ use native.Mathlib.Nat.{add-zero, zero-add}
 use lib.ListN.{length, length-append}
 use Rattle.std.specs.Prelude.{Option, Some, None, Result, Ok, Err}
 use Rattle.std.specs.Result.{result_ok}
-use Rattle.refusal.specs.Report.{refusal}
 use Rattle.refusal.specs.declared.Reason.{Reason}
-use Rattle.refusal.specs.declared.Reason.TheVariants.{Unknown}
 use Rattle.refusal.specs.declared.Refusal.{Refusal}
 use Rattle.octets.specs.Octet.{Octets}
 use Rattle.wire.specs.Frame.{Frame, Legal, LegalBodies, table, framing_of, base, wire_octets, wire, octets_of, rows_of}
 use Rattle.wire.specs.Walk.{Walk, refused, read_of}
-use Rattle.wire.specs.Answers.{FramingKnown, Walks}
+use Rattle.wire.specs.Answers.{Walks}
 use Rattle.wire.specs.declared.Session.{Session}
 use Rattle.wire.specs.declared.Framing.{Framing}
 use Rattle.wire.specs.declared.Row.{Row}
@@ -24,7 +22,6 @@ use Rattle.wire.specs.declared.Summary.{Summary}
 use Rattle.octets.proofs.Order.{below_or}
 use Rattle.wire.proofs.Octets.{length-wire}
 use Rattle.wire.proofs.Complete.{unique}
-use Rattle.wire.proofs.Sessions.{known_framing_lem}
 use Rattle.wire.proofs.Meaning.{reads_it, none_gives, Meaning, accepted, denied, meaning, went, stopped}
 use Rattle.views.specs.View.{span, is_augmented, location_at, location_in, location_of, location_by, location_values, HasRow, NoRow, Locates}
 use Rattle.views.specs.StepBack.{Holds}
@@ -167,11 +164,10 @@ was_ok : {A E : Type 0} (r : Result A E) (x : A) → Some x ≡ result_ok r → 
 was_ok (Ok y) x q = let same : y ≡ x = cc in ap Ok same
 was_ok (Err y) x q = absurd (let z : ◌≡◌ {A = ℕ} 0 1 = cc in omega arith)
 
--- k and w are what is known of the session's framing fr and of the walk
-module _ (ses : Session) (p : List ℕ) (row : ℕ) (o : Octets p) {k : Result Framing Refusal} (framing : FramingKnown ses k) (fr : Framing) (known : Some fr ≡ result_ok k)
-    {w : Result Summary Refusal} (walks : Walks fr p w) where
+-- the session's framing is fr, and w is what is known of the walk
+module _ (ses : Session) (p : List ℕ) (row : ℕ) (o : Octets p) {fr : Framing} {w : Result Summary Refusal} (walks : Walks fr p w) (known : framing_of ses ≡ Some fr) where
   pub locates_in : {r : Option Location} → r ≡ location_of (read_of fr p) row → Locates ses p row r
-  locates_in e = locates ses p row o (e ∙ sym (in_framing ses p row (known_framing_lem ses (refusal Unknown 0) framing.answer fr (was_ok k fr known))))
+  locates_in e = locates ses p row o (e ∙ sym (in_framing ses p row known))
 
   pub case_refused : None ≡ result_ok w → Locates ses p row None
   case_refused e = go w walks e

@@ -111,3 +111,8 @@ module _ (fr : Framing) where
   names_short x t l e =
       simp (le-ltb x 128 (omega arith), le-ltb x 130 (omega arith), le-ltb x 160 (omega arith), le-ltb x 192 (omega arith))
       (ap (λ (n : ℕ). Ok (row Tsvcis n)) (omega arith))
+
+  -- the step over a frame of a short count, as its last octet says
+  pub step_short : (p : List ℕ) (u n r : ℕ) → 1 ≤ u → 192 ≤ get_or p (u - 1) 0 → get_or p (u - 1) 0 < 255
+      → step_of fr (beside n r (last_frame fr p u)) ≡ step_of fr (beside n r (whole fr p u (Ok (row Tsvcis (get_or p (u - 1) 0 - 177)))))
+  step_short p u n r l a h = sym (step_octet p u n r (get_or p (u - 1) 0) (row Tsvcis (get_or p (u - 1) 0 - 177)) l refl h (names_short _ _ a refl) refl)

@@ -349,6 +349,7 @@ fn admit(
 
 // The step over the frame that the unread octets end in. The commonest ends, which one octet names, go ahead by themselves: without
 // these arms the walk takes more than twice as long.
+#[tactic(auto, using(crate::proofs::StepCases::step_short))]
 fn next_frame(framing: Framing, unread: &[u8], frames: usize, rate: u32) -> Result<Shape, Reason>
     ensures { result ≡ step_of framing (beside frames rate (last_frame framing unread.now (length unread.now))) }
 {

@@ -5,7 +5,7 @@ use Rattle.listing_io.proofs.Blocks.{upto, smaller, carries}
 use Rattle.listing_io.proofs.list_block.Goals as goal
 
 pub slice_bounds-rest-count : goal.slice_bounds-rest-count
-slice_bounds-rest-count c = upto c.list.ensures _ c.in_ok-progress.ensures.cases
+slice_bounds-rest-count c = omega (arith, upto c.list.ensures _ c.in_ok-progress.ensures.cases)
 
 pub slice_bounds-rest-start : goal.slice_bounds-rest-start
 slice_bounds-rest-start c = omega (arith, upto c.list.ensures _ c.in_ok-progress.ensures.cases)
@@ -13,8 +13,8 @@ slice_bounds-rest-start c = omega (arith, upto c.list.ensures _ c.in_ok-progress
 pub loop-rest-smaller : goal.loop-rest-smaller
 loop-rest-smaller c =
     let h : 1 ≤ length c.loop-rest.rest.now = grind (arith, nat_tests) in
-    smaller c.list.ensures _ c.in_ok-progress.ensures.cases h
+    smaller c.list.ensures _ c.in_ok-progress.ensures.cases (omega (arith, upto c.list.ensures _ c.in_ok-progress.ensures.cases)) h
 
 pub loop-rest-preserved : goal.loop-rest-preserved
 loop-rest-preserved c =
-    c.loop-rest.invariant ∙ carries c.list.ensures _ c.in_ok-progress.ensures.cases
+    c.loop-rest.invariant ∙ carries c.list.ensures _ c.in_ok-progress.ensures.cases (omega (arith, upto c.list.ensures _ c.in_ok-progress.ensures.cases))

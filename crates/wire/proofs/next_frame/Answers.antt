@@ -2,7 +2,7 @@
 use mathlib.Core.Path.{refl}
 use native.Mathlib.Omega.{arith}
 use Rattle.std.proofs.lemmas.Result.{err_from_is_err_and}
-use Rattle.wire.proofs.StepCases.{step_refused, step_names, step_octet, names_low, names_noise, names_short}
+use Rattle.wire.proofs.StepCases.{step_refused, step_names, step_octet, names_low, names_noise}
 use Rattle.wire.proofs.next_frame.Goals as goal
 
 pub returns-in-0-to-127 : goal.returns-in-0-to-127
@@ -10,9 +10,6 @@ returns-in-0-to-127 c = step_octet _ _ _ _ _ _ _ (omega arith) refl (omega arith
 
 pub returns-in-160-to-191 : goal.returns-in-160-to-191
 returns-in-160-to-191 c = step_octet _ _ _ _ _ _ _ (omega arith) refl (omega arith) (names_noise _ _ (omega arith) (omega arith)) c.admit-in-160-to-191.ensures
-
-pub returns-in-192-to-254 : goal.returns-in-192-to-254
-returns-in-192-to-254 c = step_octet _ _ _ _ _ _ _ (omega arith) refl (omega arith) (names_short _ _ _ (omega arith) (omega arith)) c.admit-in-192-to-254.ensures
 
 pub returns-in_err-row-in_default : goal.returns-in_err-row-in_default
 returns-in_err-row-in_default c =

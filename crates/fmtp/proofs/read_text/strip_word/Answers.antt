@@ -1,6 +1,7 @@
 -- `fmtp::read_text::strip_word` compares each octet with the word's or its capital.
-use Rattle.std.proofs.Common.{rules, tests, ◌≡◌, length, Some, None, sym, ap, ◌∙◌, zip, arith, take, map, bytes_eq}
-use Rattle.std.specs.List.{list_all}
+use Rattle.std.proofs.Common.{rules, ◌≡◌, ◌∙◌, arith, map, bytes_eq}
+use Rattle.std.proofs.lemmas.Grind.{common_steps}
+use Rattle.std.proofs.lemmas.Bool.Decides.{nat_tests}
 use Rattle.std.specs.Char.{to_ascii_lowercase}
 use Rattle.std.proofs.lemmas.Iterator.{YieldsList-from_slice, YieldsList-from_zip}
 use Rattle.std.proofs.lemmas.Iterator.Search.{all_from_yields_List}
@@ -16,6 +17,6 @@ unfolding behind_word
 returns c =
     let start = c.in_ok-start.start.now in
     let word = c.args.word.now in
-    let all = all_from_yields_List is_octet c.all.new.self _ c.all.result c.all.ensures.ran (YieldsList-from_zip (YieldsList-from_slice start cc) (YieldsList-from_slice word cc)) (λ x b q k. search (rules, tests)) in
+    let all = all_from_yields_List is_octet c.all.new.self _ c.all.result c.all.ensures.ran (YieldsList-from_zip (YieldsList-from_slice start cc) (YieldsList-from_slice word cc)) (λ x b q k. grind (arith, common_steps, nat_tests)) in
     let e : c.all.result ≡ bytes_eq (map to_ascii_lowercase start) word = all ∙ octets_fold start word (grind arith) c.requires in
     rw c.then_some.ensures (search rules)
