@@ -1,5 +1,6 @@
 -- Laws of the times, and the two printed values that the rule decides.
-use Rattle.std.proofs.Common.{◌≡◌, ℕ, Bool, true, false, cond, ◌||◌, eqb, ltb, List, Option, Some, None, Result, Ok, Err, ok_or, refl, ap, ◌∙◌, arith}
+use Rattle.std.proofs.Common.{◌≡◌, ℕ, ◌*◌, ◌≤◌, Bool, true, false, cond, ◌||◌, eqb, ltb, List, Option, Some, None, Result, Ok, Err, ok_or, refl, ap, ◌∙◌, arith}
+use native.Mathlib.Nat.{mul-le-mul}
 use Rattle.refusal.specs.Report as report
 use Rattle.refusal.specs.Report.{refusal, report_of}
 use Rattle.refusal.proofs.NumberLaws.{number_of-least}
@@ -12,6 +13,7 @@ use Rattle.wire.specs.Answers.{walked_of}
 use Rattle.wire.specs.declared.Session.{Session}
 use Rattle.wire.specs.declared.Framing.{Framing}
 use Rattle.wire.specs.declared.Summary.{Summary}
+use Rattle.wire.proofs.Rates.{ticks_most}
 use Rattle.wire.proofs.Meaning.{Meaning, accepted, denied, meaning, reads_it}
 use Rattle.clock.specs.Time.{ticks_in, millis_in, time_of, time_in, PacketTime, ptime_of}
 use Rattle.clock.specs.declared.Ticks.{Ticks}
@@ -28,6 +30,10 @@ rates_last r = go (eqb r 2400) (eqb r 1200) (eqb r 600)
     go false true c = refl
     go false false true = refl
     go false false false = refl
+
+-- up to 200 coder frames last at most 144000 ticks
+pub product_most : (r n : ℕ) {t : ℕ} → t ≡ ticks_of_rate r → n ≤ 200 → n * t ≤ 144000
+product_most r n {t} q h = let m : t ≤ 720 = omega (arith, ticks_most r) in mul-le-mul h m
 
 pub five_frames : ptime_of 2400 5 ≡ report.accepted (millis_in 113)
 unfolding ptime_of is_rate ticks_of_rate

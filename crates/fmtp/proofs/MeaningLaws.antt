@@ -1,5 +1,5 @@
 -- `meaning` gives settings exactly for the texts that mean them by `Means`, and these settings.
-use Rattle.std.proofs.Common.{◌≡◌, ◌⊎◌, ℕ, zero, suc, ◌<◌, ◌≤◌, Bool, true, false, List, [], ◌∷◌, ◌++◌, map, length, decimal, eqb, bytes_eq, refl, sym, ap, ◌∙◌, inl, inr, arith, append-nil, length-append, eq-eqb, eqb-true, Option, Some, None}
+use Rattle.std.proofs.Common.{◌≡◌, ◌⊎◌, ℕ, zero, suc, ◌≤◌, Bool, true, false, List, [], ◌∷◌, ◌++◌, map, length, decimal, eqb, bytes_eq, refl, sym, ap, ◌∙◌, inl, inr, arith, append-nil, length-append, eq-eqb, eqb-true, Option, Some, None}
 use Rattle.std.proofs.lemmas.Bool.{false≢true, or_cases, cases_eq}
 use Rattle.std.proofs.lemmas.Fmt.{decimal_is_IsNumeral}
 use Rattle.std.proofs.lemmas.Option.{none-some, same_Some, option_and_then_some}
@@ -14,7 +14,7 @@ use Rattle.fmtp.specs.Text.{bitrate_name, tcmax_name, equals, semicolon, comma, 
 use Rattle.fmtp.specs.Meaning.{cut, before, behind, number_in, down_from, Item, bitrate, tcmax, bitrate_item, in_places, each, bitrate_of, tcmax_of, item_named, item_of, items, combined, meaning}
 use Rattle.fmtp.specs.Means.{Spelled, Bitrate, Tcmax, Means, neither, bitrate_tcmax, tcmax_bitrate}
 use Rattle.fmtp.specs.Means as means
-use Rattle.fmtp.proofs.SettingsLaws.{Rate, bps2400, bps1200, bps600, rate_cases, rate_range, Rates, one, two, three, rates_cases, first_rate, tcmax_range, in_range}
+use Rattle.fmtp.proofs.SettingsLaws.{Rate, bps2400, bps1200, bps600, rate_cases, rate_range, Rates, one, two, three, rates_cases, tcmax_range, in_range}
 use Rattle.fmtp.proofs.Decimals.{decimal_free, decimal_pos, further_none, further_some}
 use Rattle.fmtp.proofs.Cutting.{free_append, free_spelling, joined, parts, cut_free, cut_at, before_at, behind_at, both_sides, Each, nil, cons, each_read, each_found}
 
@@ -107,24 +107,20 @@ one_text a = rw (further_none 0 refl) (append-nil (decimal a))
 three_text : (a b c : ℕ) → is_rate b ≡ true → is_rate c ≡ true → rates_text a b c ≡ decimal a ++ (comma ∷ (decimal b ++ (comma ∷ decimal c)))
 three_text a b c rb rc = rw (further_some b (λ e. omega (arith, (rate_range b rb).0)), further_some c (λ e. omega (arith, (rate_range c rc).0)))
 
--- a sign that is no digit stands in no rate's text
-rate_free : (x r : ℕ) → (x < 48) ⊎ (57 < x) → is_rate r ≡ true → is_in x (decimal r) ≡ false
-rate_free x r l h = decimal_free x r l (omega (arith, (rate_range r h).1))
-
-no_comma : (r : ℕ) → is_rate r ≡ true → is_in comma (decimal r) ≡ false
-no_comma r h = rate_free comma r (inl (omega arith)) h
+no_comma : (r : ℕ) → is_in comma (decimal r) ≡ false
+no_comma r = decimal_free comma r (inl (omega arith))
 
 cut-rates : (a b c : ℕ) → are_rates a b c ≡ true → Rates a b c → bitrate_of (rates_text a b c) ≡ Some (bitrate a b c)
 unfolding bitrate_of bitrate_item
 cut-rates a b c h (one ra) =
     let e = each_read (number_in rates) (cons (rate_number a ra) nil) in
-    simp (one_text a, cut_free comma (decimal a) (no_comma a ra), e, h)
+    simp (one_text a, cut_free comma (decimal a) (no_comma a), e, h)
 cut-rates a b c h (two ra rb ab) =
     let e = each_read (number_in rates) (cons (rate_number a ra) (cons (rate_number b rb) nil)) in
-    simp (two_text a b rb, cut_at comma (decimal a) (decimal b) (no_comma a ra), cut_free comma (decimal b) (no_comma b rb), e, h)
+    simp (two_text a b rb, cut_at comma (decimal a) (decimal b) (no_comma a), cut_free comma (decimal b) (no_comma b), e, h)
 cut-rates a b c h (three ra rb rc ab ac bc) =
     let e = each_read (number_in rates) (cons (rate_number a ra) (cons (rate_number b rb) (cons (rate_number c rc) nil))) in
-    simp (three_text a b c rb rc, cut_at comma (decimal a) (decimal b ++ (comma ∷ decimal c)) (no_comma a ra), cut_at comma (decimal b) (decimal c) (no_comma b rb), cut_free comma (decimal c) (no_comma c rc), e, h)
+    simp (three_text a b c rb rc, cut_at comma (decimal a) (decimal b ++ (comma ∷ decimal c)) (no_comma a), cut_at comma (decimal b) (decimal c) (no_comma b), cut_free comma (decimal c) (no_comma c), e, h)
 
 record BitrateValue (v : List ℕ) (i : Item) : Type 0 where
   a : ℕ
@@ -197,15 +193,15 @@ module _ {name value t : List ℕ} (s : Spelled name value t) where
 rates_free : {a b c : ℕ} → Rates a b c → is_in semicolon (rates_text a b c) ≡ false
 rates_free {a} {b} {c} r = go r
   where
-    free : (r : ℕ) → is_rate r ≡ true → is_in semicolon (decimal r) ≡ false
-    free r h = rate_free semicolon r (inr (omega arith)) h
+    free : (r : ℕ) → is_in semicolon (decimal r) ≡ false
+    free r = decimal_free semicolon r (inr (omega arith))
 
     go : {a b c : ℕ} → Rates a b c → is_in semicolon (rates_text a b c) ≡ false
-    go (one {a} ra) = rw (one_text a) (free a ra)
-    go (two {a} {b} ra rb ab) = rw (two_text a b rb) (free_append semicolon (decimal a) (comma ∷ decimal b) (free a ra) (free b rb))
+    go (one {a} ra) = rw (one_text a) (free a)
+    go (two {a} {b} ra rb ab) = rw (two_text a b rb) (free_append semicolon (decimal a) (comma ∷ decimal b) (free a) (free b))
     go (three {a} {b} {c} ra rb rc ab ac bc) =
         rw (three_text a b c rb rc)
-        (free_append semicolon (decimal a) (comma ∷ (decimal b ++ (comma ∷ decimal c))) (free a ra) (free_append semicolon (decimal b) (comma ∷ decimal c) (free b rb) (free c rc)))
+        (free_append semicolon (decimal a) (comma ∷ (decimal b ++ (comma ∷ decimal c))) (free a) (free_append semicolon (decimal b) (comma ∷ decimal c) (free b) (free c)))
 
 -- what its text is read as, and that it is one part of a text
 record Whole (t : List ℕ) (i : Item) : Type 0 where
@@ -222,7 +218,7 @@ item_read (rates_item {a = a} {b = b} {c = c} k) = record {
 }
 item_read (tcmax_text {n = n} k) = record {
   read = sym (item_named_lem k.item refl refl) ∙ tcmax_value n k.number;
-  free = item_free k.item refl refl (decimal_free semicolon n (inr (omega arith)) (omega (arith, (tcmax_range n k.number).1)));
+  free = item_free k.item refl refl (decimal_free semicolon n (inr (omega arith)));
   some_text = item_some k.item;
 }
 
@@ -233,10 +229,8 @@ spelled t name value s e n = record {
   text = both_sides equals t (λ z. n (sym e ∙ z)) ∙ rw e refl;
 }
 
-rates_some : (a b c : ℕ) → are_rates a b c ≡ true → rates_text a b c ≡ [] → ⊥
-rates_some a b c h e =
-    let r = rate_range a (first_rate (rates_cases a b c h)) in
-    omega (arith, ap length e, length-append (decimal a) (further_text b ++ further_text c), decimal_pos a (omega arith))
+rates_some : (a b c : ℕ) → rates_text a b c ≡ [] → ⊥
+rates_some a b c e = omega (arith, ap length e, length-append (decimal a) (further_text b ++ further_text c), decimal_pos a)
 
 item_found : (t : List ℕ) (i : Item) → item_of t ≡ Some i → ItemText t i
 unfolding item_of item_named
@@ -245,10 +239,10 @@ item_found t i e = go (bytes_eq (map to_ascii_lowercase (before equals t)) bitra
     go : (x : Bool) → bytes_eq (map to_ascii_lowercase (before equals t)) bitrate_name ≡ x → (y : Bool) → bytes_eq (map to_ascii_lowercase (before equals t)) tcmax_name ≡ y → ItemText t i
     go true f y g =
         let v = value_bitrate (behind equals t) i (simp f at e) in
-        rw v.is (rates_item (record { rates = v.rates; item = spelled t bitrate_name (rates_text v.a v.b v.c) f v.text (rates_some v.a v.b v.c v.rates) }))
+        rw v.is (rates_item (record { rates = v.rates; item = spelled t bitrate_name (rates_text v.a v.b v.c) f v.text (rates_some v.a v.b v.c) }))
     go false f true g =
         let v = value_tcmax (behind equals t) i (simp (f, g) at e) in
-        rw v.is (tcmax_text (record { number = v.number; item = spelled t tcmax_name (decimal v.n) g v.text (λ z. omega (arith, ap length z, decimal_pos v.n (omega (arith, (tcmax_range v.n v.number).1)))) }))
+        rw v.is (tcmax_text (record { number = v.number; item = spelled t tcmax_name (decimal v.n) g v.text (λ z. omega (arith, ap length z, decimal_pos v.n)) }))
     go false f false g = absurd (none-some i (simp (f, g) at e))
 
 -- ---- texts

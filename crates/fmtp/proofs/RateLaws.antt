@@ -1,5 +1,5 @@
 -- Reading the text of rates gives the rates, and only their text does.
-use Rattle.std.proofs.Common.{◌≡◌, ◌==◌, ◌⊎◌, ℕ, Bool, true, false, List, [], ◌∷◌, ◌++◌, ltb, decimal, codes, eqb, nat_eq, refl, sym, ap, ◌∙◌, inl, inr, arith, eqb-true, append_assoc, option_map, Option, Some, None}
+use Rattle.std.proofs.Common.{◌≡◌, ◌==◌, ◌⊎◌, ℕ, ◌+◌, ◌≤◌, length, drop, Bool, true, false, List, [], ◌∷◌, ◌++◌, ltb, decimal, codes, eqb, nat_eq, refl, sym, ap, ◌∙◌, inl, inr, arith, eqb-true, append_assoc, option_map, Option, Some, None}
 use Rattle.std.proofs.lemmas.Option.{none-some, some_pair_parts, option_and_then_some}
 use Rattle.std.specs.List.{list_all}
 use Rattle.std.specs.Fmt.{digits}
@@ -10,7 +10,7 @@ use Rattle.fmtp.specs.Steps.{Taken, behind_word, or_else, take_rate, take_furthe
 use Rattle.fmtp.proofs.SettingsLaws.{Rate, bps2400, bps1200, bps600, rate_cases, rate_range, Rates, one, two, three, rates_cases}
 use Rattle.fmtp.proofs.Decimals.{further_none, further_some}
 use Rattle.fmtp.proofs.NumberLaws.{Ends, nothing, joined}
-use Rattle.fmtp.proofs.Words.{behind_found, behind_read, spelled_alone}
+use Rattle.fmtp.proofs.Words.{behind_found, behind_read, spelled_alone, split_ends}
 
 -- ---- a rate
 
@@ -66,6 +66,17 @@ further_found (x ∷ t) r u e = go (x == comma) refl
         let p = rate_found t r u (simp f at e) in
         let c : x ≡ comma = eqb-true x comma f in
         rw (further_some r (λ z. omega (arith, z, (rate_range r p.rate).0)), c) (ap (λ (l : List ℕ). comma ∷ l) p.text)
+
+-- ---- rates that a text has at an index
+
+module _ (t : List ℕ) (at : ℕ) (l : at ≤ length t) (k r : ℕ) (u : List ℕ) where
+  -- the rate fits, and what is left is the text behind it
+  pub rate_fits : take_rate (drop at t) ≡ Some (r, u) → k ≡ length (decimal r) → (at + k ≤ length t) × (u ≡ drop (at + k) t)
+  rate_fits e f = split_ends (decimal r) u t at k l (rate_found (drop at t) r u e).text f
+
+  -- so does a further rate, with its comma
+  pub further_fits : take_further (drop at t) ≡ Some (r, u) → k ≡ length (further_text r) → (at + k ≤ length t) × (u ≡ drop (at + k) t)
+  further_fits e f = split_ends (further_text r) u t at k l (further_found (drop at t) r u e) f
 
 -- ---- one to three rates
 

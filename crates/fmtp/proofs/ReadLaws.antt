@@ -1,5 +1,5 @@
 -- The reader's steps give what a text means: they take the items of exactly the texts that mean settings.
-use Rattle.std.proofs.Common.{◌≡◌, ◌==◌, ◌⊎◌, ℕ, Bool, true, false, List, [], ◌∷◌, ◌++◌, map, length, decimal, refl, sym, ap, subst, ◌∙◌, inl, arith, append_assoc, append-nil, length-append, eqb-true, Option, Some, None, option_and_then, Result, Ok, Err, ok_or}
+use Rattle.std.proofs.Common.{◌≡◌, ◌==◌, ◌⊎◌, ℕ, ◌+◌, Bool, true, false, List, [], ◌∷◌, ◌++◌, map, length, decimal, refl, sym, ap, subst, ◌∙◌, inl, arith, append_assoc, append-nil, length-append, eqb-true, Option, Some, None, option_and_then, Result, Ok, Err, ok_or}
 use Rattle.std.proofs.lemmas.List.{map-append}
 use Rattle.std.proofs.lemmas.Option.{none-some, same_Some, some_pair_parts, option_and_then_some}
 use Rattle.std.specs.Char.{to_ascii_lowercase}
@@ -15,7 +15,7 @@ use Rattle.fmtp.specs.Means as means
 use Rattle.fmtp.specs.Answers.{no_settings, meaning_report, Reads}
 use Rattle.fmtp.specs.Steps.{Taken, behind_word, take_rates, take_tcmax, take_number, item_behind, take_item, settings_behind, settings_behind_two, settings_in}
 use Rattle.fmtp.proofs.SettingsLaws.{tcmax_range, in_range}
-use Rattle.fmtp.proofs.Words.{Begun, behind_found, behind_read, behind_other, folds_alone}
+use Rattle.fmtp.proofs.Words.{Begun, behind_found, behind_read, behind_other, folds_alone, spelled-length}
 use Rattle.fmtp.proofs.NumberLaws.{Ends, nothing, joined, number_read, number_found}
 use Rattle.fmtp.proofs.RateLaws.{rates_read, rates_found}
 use Rattle.fmtp.proofs.MeaningLaws.{ItemText, rates_item, tcmax_text, item_some, means_meaning, meaning_means, alone_means, both_mean}
@@ -30,6 +30,12 @@ module _ {name value t : List ℕ} (i : Spelled name value t) where
   value_read u =
       let e : t ++ u ≡ i.spelling ++ (equals ∷ []) ++ (value ++ u) = ap (λ (l : List ℕ). l ++ u) i.text ∙ simp append_assoc in
       rw e (behind_read (name ++ (equals ∷ [])) (i.spelling ++ (equals ∷ [])) (value ++ u) head_folds)
+
+  -- how long an item is
+  pub item_length : length t ≡ length (name ++ (equals ∷ [])) + length value
+  item_length =
+      let n = spelled-length (i.spelling ++ (equals ∷ [])) (name ++ (equals ∷ [])) head_folds in
+      omega (arith, ap length i.text, length-append i.spelling (equals ∷ value), length-append i.spelling (equals ∷ []))
 
 -- a spelling of `tcmax` is none of `bitrate`
 other_name : (s u : List ℕ) → map to_ascii_lowercase s ≡ tcmax_name → behind_word (bitrate_name ++ (equals ∷ [])) (s ++ u) ≡ None

@@ -1,6 +1,6 @@
 -- Words that a text starts with, in any letter case: the test of an octet, and what the test of each octet tells.
-use Rattle.std.proofs.Common.{◌≡◌, ◌==◌, ◌&&◌, ◌||◌, ◌<◌, Bool, true, false, ℕ, List, [], ◌∷◌, ◌++◌, map, length, take, drop, refl, sym, ap, ◌∙◌, arith, rules, zip, bytes_eq, length-take, Option, Some, None, ◌⊎◌, inl, ltb, ltb-true, take-append-drop, take_at, drop_at, ne_eqb}
-use Rattle.std.proofs.lemmas.List.{length-map}
+use Rattle.std.proofs.Common.{◌≡◌, ◌==◌, ◌&&◌, ◌||◌, ◌<◌, Bool, true, false, ℕ, List, [], ◌∷◌, ◌++◌, map, length, take, drop, refl, sym, ap, ◌∙◌, arith, rules, zip, bytes_eq, length-take, length-drop, length-append, ◌+◌, ◌≤◌, Option, Some, None, ◌⊎◌, inl, ltb, ltb-true, take-append-drop, take_at, drop_at, ne_eqb}
+use Rattle.std.proofs.lemmas.List.{length-map, drop-drop}
 use Rattle.std.proofs.lemmas.Bool.{and_parts}
 use Rattle.std.proofs.lemmas.Option.{cond_some}
 use Rattle.std.proofs.lemmas.Slice.Eq.{bytes_eq-Decides}
@@ -83,3 +83,16 @@ spelled_alone (x ∷ s) (y ∷ w) a e =
     let h : x ≡ y = folds_alone x y (inl (ltb-true y 97 p.0)) (cc) in
     let t : s ≡ w = spelled_alone s w p.1 (cc) in
     cc
+
+-- ---- a list that a text starts with at an index
+
+-- lies in it
+pub split_fits : (a t : List ℕ) (at : ℕ) → at ≤ length t → drop at t ≡ a ++ drop (length a) (drop at t) → at + length a ≤ length t
+split_fits a t at l e = omega (arith, ap length e, length-append a (drop (length a) (drop at t)), length-drop at t)
+
+-- and what stands behind it is the text from its end on
+pub split_ends : (a u t : List ℕ) (at k : ℕ) → at ≤ length t → drop at t ≡ a ++ u → k ≡ length a → (at + k ≤ length t) × (u ≡ drop (at + k) t)
+split_ends a u t at k l e f =
+    let d : drop k (drop at t) ≡ u = ap (drop k) e ∙ drop_at a u k (sym f) in
+    let r : drop (length a) (drop at t) ≡ u = rw f at d in
+    (rw f (split_fits a t at l (rw r e)), sym d ∙ drop-drop k at t)

@@ -6,10 +6,11 @@ use native.Mathlib.Omega.{arith}
 use lib.ListN.{length, drop, length-append, length-drop}
 use lib.Seq.{drop_at, drop-drop}
 use Rattle.leb128.specs.Number.{step_of, Head, number, short, none, head_from, head_of, found_of, found_at}
-use Rattle.std.specs.Prelude.{Option, Some, None, Ok, Err}
+use Rattle.std.specs.Prelude.{Option, Some, None, Result, Ok, Err}
 use Rattle.leb128.specs.declared.Group.{Group}
 use Rattle.leb128.specs.declared.Group.TheVariants.{More, Last}
 use Rattle.leb128.specs.declared.Found.{Found}
+use Rattle.leb128.specs.declared.NumberError.{NumberError}
 use Rattle.leb128.specs.declared.NumberError.TheVariants.{Short, Bad}
 
 module _ (most bound : ℕ) where
@@ -72,47 +73,67 @@ module _ (most bound : ℕ) where
 
   -- ---- at an index
 
-  module _ (xs : List ℕ) (i : ℕ) where
+  -- what the octets xs from the index i on make of k groups of the value v
+  module _ (v k : ℕ) (xs : List ℕ) (i : ℕ) where
+    abbrev pub part_at : Result Found NumberError
+    part_at = found_of (length xs) (head_from most bound v k (drop i xs))
+
     -- what is found there, as a head: the octets behind a number are those from its end on
     pub record FoundNumber (n s : ℕ) : Type 0 where
-      pub head : head_of most bound (drop i xs) ≡ number n (drop s xs)
+      pub head : head_from most bound v k (drop i xs) ≡ number n (drop s xs)
       pub later : i < s
       pub within : s ≤ length xs
 
-    pub found_number : (n s : ℕ) → found_at most bound xs i ≡ Ok (record { number = n; next = s }) → FoundNumber n s
-    found_number n s e = go (head_of most bound (drop i xs)) refl e
+    pub part_number : (n s : ℕ) → part_at ≡ Ok (record { number = n; next = s }) → FoundNumber n s
+    part_number n s e = go (head_from most bound v k (drop i xs)) refl e
       where
-        go : (h : Head) → head_of most bound (drop i xs) ≡ h → found_of (length xs) h ≡ Ok (record { number = n; next = s }) → FoundNumber n s
+        go : (h : Head) → head_from most bound v k (drop i xs) ≡ h → found_of (length xs) h ≡ Ok (record { number = n; next = s }) → FoundNumber n s
         go (number m rest) q d =
             let f : ◌≡◌ {A = Found} (record { number = m; next = length xs - length rest }) (record { number = n; next = s }) = cc in
             let em : m ≡ n = ap (λ (r : Found). r.number) f in
             let es : s ≡ length xs - length rest = ap (λ (r : Found). r.next) (sym f) in
-            let b = head_behind (drop i xs) 0 0 m rest q in
+            let b = head_behind (drop i xs) v k m rest q in
             let l : length xs - i ≡ length b.front + length rest = sym (length-drop i xs) ∙ ap length b.text ∙ length-append b.front rest in
             let f = b.some in
             let at : i + length b.front ≡ s = omega arith in
             let er : drop s xs ≡ rest = ap (λ (j : ℕ). drop j xs) (sym at) ∙ sym (drop-drop (length b.front) i xs) ∙ ap (drop (length b.front)) b.text ∙ drop_at b.front rest (length b.front) refl in
             record { head = q ∙ ap (λ (j : ℕ). number j rest) em ∙ ap (number n) (sym er); later = omega arith; within = omega arith }
-        go (short v k) q d = absurd (let z : ◌≡◌ {A = ℕ} 0 1 = cc in omega arith)
+        go (short w j) q d = absurd (let z : ◌≡◌ {A = ℕ} 0 1 = cc in omega arith)
         go none q d = absurd (let z : ◌≡◌ {A = ℕ} 0 1 = cc in omega arith)
 
-    pub record FoundShort : Type 0 where
+    -- too few octets: the groups so far, of which each octet is one
+    pub record PartShort : Type 0 where
       pub value : ℕ
       pub groups : ℕ
-      pub head : head_of most bound (drop i xs) ≡ short value groups
+      pub head : head_from most bound v k (drop i xs) ≡ short value groups
+      pub each : groups ≡ k + length (drop i xs)
 
-    pub found_short : found_at most bound xs i ≡ Err Short → FoundShort
-    found_short e = go (head_of most bound (drop i xs)) refl e
+    pub part_more : part_at ≡ Err Short → PartShort
+    part_more e = go (head_from most bound v k (drop i xs)) refl e
       where
-        go : (h : Head) → head_of most bound (drop i xs) ≡ h → found_of (length xs) h ≡ Err Short → FoundShort
+        go : (h : Head) → head_from most bound v k (drop i xs) ≡ h → found_of (length xs) h ≡ Err Short → PartShort
         go (number m rest) q d = absurd (let z : ◌≡◌ {A = ℕ} 0 1 = cc in omega arith)
-        go (short v k) q d = record { value = v; groups = k; head = q }
+        go (short w j) q d = record { value = w; groups = j; head = q; each = head_groups (drop i xs) v k w j q }
         go none q d = absurd (let z : ◌≡◌ {A = ℕ} 0 1 = cc in omega arith)
 
-    pub found_bad : found_at most bound xs i ≡ Err Bad → head_of most bound (drop i xs) ≡ none
-    found_bad e = go (head_of most bound (drop i xs)) refl e
+    pub part_bad : part_at ≡ Err Bad → head_from most bound v k (drop i xs) ≡ none
+    part_bad e = go (head_from most bound v k (drop i xs)) refl e
       where
-        go : (h : Head) → head_of most bound (drop i xs) ≡ h → found_of (length xs) h ≡ Err Bad → head_of most bound (drop i xs) ≡ none
+        go : (h : Head) → head_from most bound v k (drop i xs) ≡ h → found_of (length xs) h ≡ Err Bad → head_from most bound v k (drop i xs) ≡ none
         go (number m rest) q d = absurd (let z : ◌≡◌ {A = ℕ} 0 1 = cc in omega arith)
-        go (short v k) q d = absurd (let z : ◌≡◌ {A = ℕ} 0 1 = cc in omega arith)
+        go (short w j) q d = absurd (let z : ◌≡◌ {A = ℕ} 0 1 = cc in omega arith)
         go none q d = q
+
+  -- where no groups stand before
+  module _ (xs : List ℕ) (i : ℕ) where
+    pub found_number : (n s : ℕ) → found_at most bound xs i ≡ Ok (record { number = n; next = s }) → FoundNumber 0 0 xs i n s
+    found_number n s e = part_number 0 0 xs i n s e
+
+    abbrev pub FoundShort : Type 0
+    FoundShort = PartShort 0 0 xs i
+
+    pub found_short : found_at most bound xs i ≡ Err Short → FoundShort
+    found_short e = part_more 0 0 xs i e
+
+    pub found_bad : found_at most bound xs i ≡ Err Bad → head_of most bound (drop i xs) ≡ none
+    found_bad e = part_bad 0 0 xs i e

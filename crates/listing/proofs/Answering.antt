@@ -4,7 +4,7 @@ use mathlib.Core.Logic.{◌⊎◌, inl, inr}
 use mathlib.Core.List.{List, ◌++◌}
 use Prim.Native.Nat.{ℕ, ◌+◌, ◌≤◌, ◌<◌}
 use native.Mathlib.Omega.{arith}
-use lib.ListN.{length, take, drop}
+use lib.ListN.{length, take, drop, length-append}
 use lib.Seq.{take_at}
 use borrow.Author.Tests.{lt-ltb, le-ltb, le-leb}
 use Rattle.std.specs.Prelude.{Some, Result, Ok, Err}
@@ -101,6 +101,15 @@ module _ {s : State} {input b out : List ℕ} {p : Progress} {b' out' : List ℕ
   part_some h =
       let c = part-accepted in
       omega (arith, ap (λ (q : Progress). q.taken) c.answered.progress, run_taken_some (length out) (started s b) input h (le-leb 71 (length out) c.room))
+
+  -- nor written than there is room for, a lent buffer keeping its length
+  pub part_fits : length out' ≡ length out → p.written ≤ length out
+  part_fits e =
+      let c = part-accepted.answered in
+      let t = run (Some (length out)) (started s b) input in
+      let l : length out' ≡ length t.output + length (drop (0 + length t.output) out) =
+      ap length c.output ∙ length-append t.output (drop (0 + length t.output) out) in
+      omega (arith, ap (λ (q : Progress). q.written) c.progress)
 
 -- ---- close
 

@@ -99,14 +99,21 @@ frames_not_empty p n m fs ep h l e =
     let z : length fs ≡ 0 = same_number (111 ∷ 107 ∷ 32 ∷ []) n m (length fs) (ticks_of fs) 0 0 (omega arith) (omega arith) (sym (ap (line_of n) ep) ∙ e) in
     omega arith
 
--- a payload whose line is that of a refusal is refused for its reason
+-- a payload whose line is that of a refusal is refused by its number
+pub line_number : (p : List ℕ) (n m k place : ℕ) → k < 18446744073709551616 → payload_line n p ≡ line_with m refused_word k place
+    → (r : Reason) × (q : ℕ) × (behind : List Frame) × (number_of r ≡ k) × (read_of Unframed p ≡ refused r q behind)
+line_number p n m k place h e = go (read_of Unframed p) refl e
+  where
+    go : (w : Walk) → read_of Unframed p ≡ w → line_of n w ≡ line_with m refused_word k place
+        → (r : Reason) × (q : ℕ) × (behind : List Frame) × (number_of r ≡ k) × (read_of Unframed p ≡ refused r q behind)
+    go (at u fs) q d = absurd (lines_differ m n k place (length fs) (ticks_of fs) (sym d))
+    go (refused r i behind) q d =
+        let z : number_of r ≡ k = same_number (114 ∷ 101 ∷ 102 ∷ 117 ∷ 115 ∷ 101 ∷ 100 ∷ 32 ∷ []) n m (number_of r) i k place (omega (arith, number_of-most r)) h d in
+        (r, i, behind, z, q)
+
+-- and for its reason
 pub line_refusal : (p : List ℕ) (n m : ℕ) (reason : Reason) (place : ℕ) → payload_line n p ≡ line_with m refused_word (number_of reason) place
     → (q : ℕ) × (behind : List Frame) × (read_of Unframed p ≡ refused reason q behind)
-line_refusal p n m reason place e = go (read_of Unframed p) refl e
-  where
-    go : (w : Walk) → read_of Unframed p ≡ w → line_of n w ≡ line_with m refused_word (number_of reason) place
-        → (q : ℕ) × (behind : List Frame) × (read_of Unframed p ≡ refused reason q behind)
-    go (at u fs) q d = absurd (lines_differ m n (number_of reason) place (length fs) (ticks_of fs) (sym d))
-    go (refused r i behind) q d =
-        let z : number_of r ≡ number_of reason = same_number (114 ∷ 101 ∷ 102 ∷ 117 ∷ 115 ∷ 101 ∷ 100 ∷ 32 ∷ []) n m (number_of r) i (number_of reason) place (omega (arith, number_of-most r)) (omega (arith, number_of-most reason)) d in
-        (i, behind, q ∙ ap (λ (x : Reason). refused x i behind) (number_of-injective r reason z))
+line_refusal p n m reason place e =
+    let x = line_number p n m (number_of reason) place (omega (arith, number_of-most reason)) e in
+    (x.1, x.2, x.4 ∙ ap (λ (y : Reason). refused y x.1 x.2) (number_of-injective x.0 reason x.3))

@@ -67,6 +67,10 @@ closing_word s e = ap (λ (w : List ℕ). last_line w s.lines) e ∙ go (is_whol
 
 -- ---- the number of a line
 
+pub following_last : (n : ℕ) → 18446744073709551615 ≤ n → n ≡ following n
+unfolding following
+following_last n h = simp (le-ltb n 18446744073709551615 h)
+
 pub following_saturates : (n : ℕ) → n < 18446744073709551616 → min (n + 1) 18446744073709551615 ≡ following n
 unfolding following
 following_saturates n h = go (below_or n 18446744073709551615)

@@ -1,5 +1,5 @@
 -- What is asked of a record made from rows is what is worked out afresh from them.
-use Rattle.std.proofs.Common.{◌≡◌, ℕ, zero, suc, ◌+◌, ◌*◌, ◌<◌, ◌≤◌, ◌⊎◌, inl, inr, List, [], ◌∷◌, Result, Ok, Err, length, get_or, take, refl, sym, ◌∙◌, arith}
+use Rattle.std.proofs.Common.{◌≡◌, ℕ, zero, suc, ◌+◌, ◌*◌, ◌<◌, ◌≤◌, ◌⊎◌, inl, inr, List, [], ◌∷◌, Result, Ok, Err, length, get_or, take, refl, sym, ap, ◌∙◌, arith}
 use borrow.Author.Tests.{lt-ltb, le-ltb}
 use Rattle.std.proofs.lemmas.Bool.{cases_lt}
 use Rattle.refusal.specs.Report.{refusal}
@@ -14,6 +14,10 @@ use Rattle.record.specs.declared.Record.{Record}
 use Rattle.record.specs.declared.RowNumbers.{RowNumbers}
 use Rattle.record.proofs.Padding.{get_d_padded}
 use Rattle.record.proofs.RowLists.{length_starts, few}
+
+-- a field of the record
+pub asked_field : {A : Type 0} {held : Record → A} {afresh : List Row → A} {p : Record} {r : A} → r ≡ held p → ((xs : List Row) → held (record_of xs) ≡ afresh xs) → Asked held afresh p r
+asked_field {held = held} e m = record { answer = e; made = λ xs q. e ∙ ap held q.is ∙ m xs }
 
 -- ---- rows
 

@@ -4,6 +4,7 @@ pub mod RowLaws
 pub mod RowSequences
 pub mod Pairs
 pub mod RowLoop
+pub mod Stores
 pub mod Shapes
 pub mod Frames
 pub mod FrameLoops
